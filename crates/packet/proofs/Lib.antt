@@ -1,0 +1,4 @@
+pub mod LittleEndian
+pub mod HeaderLaws
+pub mod RoundTrip
+pub mod Blocks

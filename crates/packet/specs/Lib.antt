@@ -1,0 +1,4 @@
+pub mod LittleEndian
+pub mod Header
+pub mod Blocks
+pub mod RoundTrip

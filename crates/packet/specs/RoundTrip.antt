@@ -1,0 +1,31 @@
+-- Encoding and decoding undo each other: what is claimed. The proofs are in proofs/RoundTrip.antt. Assumes nothing.
+use Prim.Native.Nat.{ℕ, _^_, _≤_, _<_}
+use mathlib.Core.Path.{_≡_}
+use mathlib.Core.List.{List, _++_}
+use lib.ListN.{length, getD, take, drop}
+use Rattle.packet.specs.declared.header.Header.{Header}
+use Rattle.packet.specs.declared.header.Decoded.the-variants.{Packet}
+use Rattle.packet.specs.Header.{decoded, encodedIn}
+
+-- each field fits the bytes that it has in the header, as every header of the code does
+pub record Within (h : Header) : Type 0 where
+  pub typ : h .typ < 256
+  pub «data_offset» : h .«data_offset» < 256
+  pub «stream_id» : h .«stream_id» < 2 ^ 32
+  pub «recv_win» : h .«recv_win» < 2 ^ 32
+  pub seq : h .seq < 2 ^ 32
+  pub ack : h .ack < 2 ^ 32
+
+-- each element is a byte, as in every slice of the code; past the end `getD` gives 0
+abbrev pub Bytes : List ℕ → Type 0
+Bytes s = (i : ℕ) → getD s i 0 < 256
+
+-- Decoding what was encoded gives the header back.
+abbrev pub DecodeEncode : Type 0
+DecodeEncode = (h : Header) (buf : List ℕ) → Within h → 20 ≤ length buf → decoded (encodedIn h buf) ≡ Packet h
+
+-- Encoding what was decoded gives its first 20 bytes back.
+abbrev pub EncodeDecode : Type 0
+EncodeDecode =
+    (h : Header) (s buf : List ℕ) → Bytes s → decoded s ≡ Packet h → 20 ≤ length buf
+    → encodedIn h buf ≡ take 20 s ++ drop 20 buf

@@ -1,0 +1,10 @@
+// Headers and SACK blocks as bytes (src/packet.rs, and the reader in handle_incoming_sacks). Knows nothing of streams.
+mod header;
+mod little_endian;
+mod sack;
+
+pub use header::Decoded;
+pub use header::Header;
+pub use little_endian::read_u32_le;
+pub use sack::Block;
+pub use sack::block_at;
