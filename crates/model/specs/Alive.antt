@@ -1,0 +1,77 @@
+-- Facts that keep the definitions alive: a stream that did nothing would break none of the promises on safety, and it is none of
+-- these. Statements only: the proofs are proofs/Alive*.antt. Assumes nothing.
+use Prim.Native.Nat.{ℕ, _≤_, _<_, min}
+use mathlib.Core.Path.{_≡_}
+use mathlib.Core.List.{List, [], _∷_, List·Memᴰ}
+use mathlib.Core.Logic.{_⊎_}
+use mathlib.Core.Option.{none, some}
+use mathlib.Core.Bool.{Bool, true, false, cond, _&&_, _||_}
+use lib.Dec.{ltb, leb}
+use lib.ListN.{length}
+use Rattle.error.specs.declared.UdxError.the-variants.{TimedOut}
+use Rattle.error.specs.declared.Outcome.the-variants.{Ready}
+use Rattle.packet.specs.Blocks.{Span}
+use Rattle.model.specs.Lists.{Bytes}
+use Rattle.model.specs.Slots.{ceiling, get}
+use Rattle.model.specs.Stream.{Packet, packet, End, fresh}
+use Rattle.model.specs.Sending.{openRefusal, write}
+use Rattle.model.specs.Receiving.{ackBlocks, deliver, read}
+use Rattle.model.specs.Driving.{driveClock, settle, due, drive, take}
+use Rattle.model.specs.Calls.{Call, after}
+use Rattle.model.specs.TwoEnds.{Id}
+
+-- A write on a fresh stream is accepted up to the window: two pieces of 1,380 bytes with their headers fill 2,800.
+abbrev pub FreshWrite : Type 0
+FreshWrite =
+    (local remote segments clock : ℕ)
+    → openRefusal segments clock ≡ none
+    → (bytes : Bytes)
+    → let a = write bytes (fresh local remote segments clock) in (a .outcome ≡ Ready) × (a .count ≡ min (length bytes) 2_760)
+
+-- One piece written, driven and taken at a fresh end, handed to the other fresh end and read there: every call answers ok, and
+-- the bytes read are the bytes written.
+abbrev pub CarriedOnce : Type 0
+CarriedOnce =
+    (i j segmentsA segmentsB clockA clockB : ℕ)
+    → Id i
+    → Id j
+    → openRefusal segmentsA clockA ≡ none
+    → openRefusal segmentsB clockB ≡ none
+    → (bytes : Bytes)
+    → 1 ≤ length bytes
+    → length bytes ≤ 1_380
+    → let w = write bytes (fresh i j segmentsA clockA) in
+    let d = drive clockA (w .end) in
+    let t = take 14_000 (d .end) in
+    let h = deliver (t .bytes) clockB (fresh j i segmentsB clockB) in
+    let r = read 1_380 (h .end) in
+    (w .outcome ≡ Ready) × (d .outcome ≡ Ready) × (t .outcome ≡ Ready) × (h .outcome ≡ Ready) × (r .outcome ≡ Ready) × (r .bytes ≡ bytes)
+
+-- A drive whose timer is due once the acks are settled, on a stream that then stores a packet, fails with TimedOut or queues the
+-- lowest one.
+abbrev pub DueDrive : Type 0
+DueDrive =
+    (local remote segments clock : ℕ)
+    → openRefusal segments clock ≡ none
+    → (calls : List Call) (at : ℕ)
+    → let e = after calls (fresh local remote segments clock) in
+    let d = drive at e in
+    let s = settle at (driveClock at e) in
+    d .outcome ≡ Ready
+    → due at s ≡ true
+    → (n : ℕ) (p : Packet)
+    → get (s .sender .outgoing) n ≡ some p
+    → ((m : ℕ) → m < n → get (s .sender .outgoing) m ≡ none)
+    → (d .end .ending .error ≡ TimedOut) ⊎ List·Memᴰ (packet n (length (p .bytes))) (d .end .queue .entries)
+
+-- SACK blocks take just their numbers out of the store, "end excluded".
+abbrev pub covers : List Span → ℕ → Bool
+covers [] n = false
+covers (b ∷ bs) n = (leb (b .start) n && ltb n (b .end)) || covers bs n
+
+abbrev pub BlocksExact : Type 0
+BlocksExact =
+    (clock : ℕ) (blocks : List Span) (e : End)
+    → length (e .sender .outgoing) ≡ ceiling
+    → (n : ℕ)
+    → get ((ackBlocks clock blocks e) .sender .outgoing) n ≡ cond (covers blocks n) none (get (e .sender .outgoing) n)

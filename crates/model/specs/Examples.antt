@@ -1,0 +1,89 @@
+-- Examples computed over the definitions: 01's example session, a packet's whole way with its ack's way back, and a packet that
+-- is resent. Statements; all of them are computed in proofs/Examples.antt. Assumes nothing.
+use Prim.Native.Nat.{ℕ}
+use mathlib.Core.Path.{_≡_}
+use mathlib.Core.List.{List, [], _∷_}
+use Rattle.error.specs.declared.Outcome.{Outcome}
+use Rattle.error.specs.declared.Outcome.the-variants.{Ready, Waiting, Nothing}
+use Rattle.model.specs.Lists.{Bytes}
+use Rattle.model.specs.Stream.{End, fresh}
+use Rattle.model.specs.Answers.{Answer}
+use Rattle.model.specs.Calls.{Call, writeCall, deliverCall, driveCall, takeCall, readCall, closeCall, answer, after}
+
+-- a line of the session: outcome, count and bytes read
+pub record Line : Type 0 where
+  pub outcome : Outcome
+  pub count : ℕ
+  pub bytes : Bytes
+
+abbrev line : Outcome → ℕ → Bytes → Line
+line o n bytes = record { outcome = o; count = n; bytes = bytes }
+
+abbrev lineOf : Answer → Line
+lineOf a = line (a .outcome) (a .count) (a .bytes)
+
+abbrev aaa : Bytes
+aaa = 65 ∷ 65 ∷ 65 ∷ []
+
+-- the datagram: type 1 for stream 2, seq 0, ack 0
+abbrev datagram : Bytes
+datagram = 255 ∷ 1 ∷ 1 ∷ 0 ∷ 2 ∷ 0 ∷ 0 ∷ 0 ∷ 255 ∷ 255 ∷ 255 ∷ 255 ∷ 0 ∷ 0 ∷ 0 ∷ 0 ∷ 0 ∷ 0 ∷ 0 ∷ 0 ∷ aaa
+
+-- the line of each call, with the end that it leaves handed on
+abbrev linesOf : List Call → End → List Line
+linesOf [] e = []
+linesOf (c ∷ cs) e = let a = answer c e in lineOf a ∷ linesOf cs (a .end)
+
+-- a state packet for stream 1 that acknowledges number 0
+abbrev ack : Bytes
+ack = 255 ∷ 1 ∷ 0 ∷ 0 ∷ 1 ∷ 0 ∷ 0 ∷ 0 ∷ 255 ∷ 255 ∷ 255 ∷ 255 ∷ 0 ∷ 0 ∷ 0 ∷ 0 ∷ 1 ∷ 0 ∷ 0 ∷ 0 ∷ []
+
+-- what is settled, in flight and allowed, the estimate and the totals of a sender
+abbrev numbersOf : End → List ℕ
+numbersOf e =
+    e .sender .remoteAcked
+    ∷ e .sender .inflight
+    ∷ e .sender .cwnd
+    ∷ e .timing .rtt .srtt .0
+    ∷ e .timing .rtt .rto .0
+    ∷ e .timing .deadline
+    ∷ e .totals .txPackets
+    ∷ e .totals .txBytes
+    ∷ e .totals .rxPackets
+    ∷ e .totals .rxBytes
+    ∷ e .totals .inflightPackets
+    ∷ e .totals .inflightBytes
+    ∷ []
+
+-- 01's example (end 0: id 1, end 1: id 2)
+pub record Examples : Type 0 where
+  -- "write 0 ok 3, drive 0 ok 0, take 0 ok 23, take 0 none 0"
+  pub session-sender :
+      linesOf (writeCall aaa ∷ driveCall 0 ∷ takeCall 14_000 ∷ takeCall 14_000 ∷ []) (fresh 1 2 10 0)
+      ≡ line Ready 3 [] ∷ line Ready 0 [] ∷ line Ready 23 datagram ∷ line Nothing 0 [] ∷ []
+  -- "hand 1 ok 0, read 1 ok 3 414141, read 1 wait 0 -, close 1 ok 0"
+  pub session-receiver :
+      linesOf (deliverCall datagram 5 ∷ readCall 8 ∷ readCall 8 ∷ closeCall ∷ []) (fresh 2 1 10 0)
+      ≡ line Ready 0 [] ∷ line Ready 3 aaa ∷ line Waiting 0 [] ∷ line Ready 0 [] ∷ []
+  -- the receiver's state packet, once it is driven and taken
+  pub acknowledged :
+      linesOf (deliverCall datagram 5 ∷ driveCall 5 ∷ takeCall 14_000 ∷ []) (fresh 2 1 10 0)
+      ≡ line Ready 0 [] ∷ line Ready 0 [] ∷ line Ready 20 ack ∷ []
+  -- the ack comes back after 400 ms: one sample of 400 ms, so rto = 400 + 4 × 200 ms; the window has grown once
+  pub settled-once :
+      numbersOf (after (writeCall aaa ∷ driveCall 0 ∷ takeCall 14_000 ∷ deliverCall ack 400_000_000 ∷ driveCall 400_000_000 ∷ []) (fresh 1 2 10 0))
+      ≡ 1 ∷ 0 ∷ 4_200 ∷ 400_000_000 ∷ 1_200_000_000 ∷ 1_600_000_000 ∷ 1 ∷ 3 ∷ 1 ∷ 0 ∷ 0 ∷ 0 ∷ []
+  -- the packet is due at 1,000 ms and goes again, so its ack gives no sample; the window was halved to 1,400 and has grown once
+  pub resent-no-sample :
+      numbersOf
+      (after
+      (writeCall aaa
+      ∷ driveCall 0
+      ∷ takeCall 14_000
+      ∷ driveCall 1_000_000_000
+      ∷ takeCall 14_000
+      ∷ deliverCall ack 1_400_000_000
+      ∷ driveCall 1_400_000_000
+      ∷ [])
+      (fresh 1 2 10 0))
+      ≡ 1 ∷ 0 ∷ 2_800 ∷ 0 ∷ 1_000_000_000 ∷ 2_400_000_000 ∷ 1 ∷ 3 ∷ 1 ∷ 0 ∷ 0 ∷ 0 ∷ []

@@ -1,0 +1,13 @@
+pub mod Lists
+pub mod Slots
+pub mod Stream
+pub mod Answers
+pub mod Rules
+pub mod Sending
+pub mod Receiving
+pub mod Driving
+pub mod Calls
+pub mod TwoEnds
+pub mod Edges
+pub mod Examples
+pub mod Alive

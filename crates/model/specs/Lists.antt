@@ -1,0 +1,30 @@
+-- Bytes, pieces and optional values: what the definitions of a stream are written with. Assumes nothing.
+use Prim.Native.Nat.{ℕ, zero, suc}
+use mathlib.Core.List.{List, [], _∷_, _++_}
+use mathlib.Core.Option.{Option, none, some}
+use mathlib.Core.Bool.{Bool, true, false}
+use lib.ListN.{take, drop}
+
+-- bytes, or numbers that stand for them
+abbrev pub Bytes : Type 0
+Bytes = List ℕ
+
+-- byte sequences joined, in order
+abbrev pub joined : List Bytes → Bytes
+joined [] = []
+joined (p ∷ ps) = p ++ joined ps
+
+-- cut into pieces of n bytes, the last one possibly shorter; the first argument bounds how many
+abbrev pub cut : ℕ → ℕ → Bytes → List Bytes
+cut zero n bytes = []
+cut (suc k) n [] = []
+cut (suc k) n (b ∷ bytes) = take n (b ∷ bytes) ∷ cut k n (drop n (b ∷ bytes))
+
+abbrev pub isEmpty : {A : Type 0} → List A → Bool
+isEmpty [] = true
+isEmpty (x ∷ xs) = false
+
+-- what f gives where there is a value, else the default
+abbrev pub on : {A B : Type 0} → Option A → B → (A → B) → B
+on none b f = b
+on (some a) b f = f a
