@@ -1,0 +1,17 @@
+-- The examples of specs/Examples.antt, computed: every definition on their way is opened. Assumes nothing.
+use mathlib.Core.Path.{refl}
+use Rattle.packet.specs.Header.{headerBytes}
+use Rattle.rtt.specs.Estimate.{sampled}
+use Rattle.rtt.specs.Window.{grown, halved}
+use Rattle.model.specs.Slots.{noSlots, get, insert, remove}
+use Rattle.model.specs.Stream.{fresh}
+use Rattle.model.specs.Answers.{gate}
+use Rattle.model.specs.Rules.{rules}
+use Rattle.model.specs.Sending.{countSent, countState, goes, writeLoop, writeRefusal, write, closeRefusal, close}
+use Rattle.model.specs.Receiving.{measured, countAcked, ackNumber, ackNumbers, ackBlocks, countReceived, countData, onSack, onEnd, advance, absorb, onData, handleIncoming, deliverRefusal, deliver, readLoop, readNext, readRefusal, read}
+use Rattle.model.specs.Driving.{settleLoop, restarted, settle, due, backedOff, timeOutPacket, timeOutLoop, checkTimeouts, fits, flushLoop, flush, anyStored, drained, driveRefusal, pollDrive, drive, sameLength, batch, takeEntry, takeLoop, takeRefusal, take}
+use Rattle.model.specs.Examples.{Examples}
+
+pub examples : Examples
+unfolding headerBytes noSlots get insert remove fresh gate rules countSent countState goes writeLoop writeRefusal write closeRefusal close measured countAcked ackNumber ackNumbers ackBlocks countReceived countData onSack onEnd advance absorb onData handleIncoming deliverRefusal deliver readLoop readNext readRefusal read settleLoop restarted settle due backedOff timeOutPacket timeOutLoop checkTimeouts fits flushLoop flush anyStored drained driveRefusal pollDrive drive sameLength batch takeEntry takeLoop takeRefusal take sampled grown halved
+examples = record { session-sender = refl; session-receiver = refl; acknowledged = refl; settled-once = refl; resent-no-sample = refl }

@@ -1,0 +1,108 @@
+-- Write and close keep the invariant. Both act only with nothing left to take (`Resting`), and leave it so: a write sends data
+-- packets, each new and queued once, and a close queues one state packet. Assumes nothing.
+use Prim.Native.Nat.{ℕ, zero, suc, _+_, _-_, _≤_, _<_}
+use native.Mathlib.Omega.{arith}
+use mathlib.Core.Path.{_≡_}
+use mathlib.Core.List.{[], _∷_}
+use mathlib.Core.Bool.{Bool, true, false, _&&_, not, true≢false}
+use lib.Dec.{ltb, leb}
+use borrow.Author.Tests.{ltb-true, ltb-false, leb-false, not-true}
+use lib.ListN.{length, drop, length-take}
+use Rattle.error.specs.declared.UdxError.{UdxError}
+use Rattle.error.specs.declared.UdxError.the-variants as error
+use Rattle.error.specs.declared.Outcome.the-variants.{Ready}
+use Rattle.model.specs.Lists.{Bytes, isEmpty}
+use Rattle.model.specs.Slots.{ceiling}
+use Rattle.model.specs.Stream.{Sender, End, withEnding}
+use Rattle.model.specs.Answers.{Answer, answered}
+use Rattle.model.specs.Rules.{states}
+use Rattle.model.specs.Sending.{piece, goes, failed, terminate, sendStatePacket, sendDataPacket, Written, writeLoop, writeTests, writeRefusal, written, write, closeTests, closeRefusal, close}
+use Rattle.model.proofs.Lists.{by-test}
+use Rattle.model.proofs.Gate.{by-gate, clear, and-left, and-right}
+use Rattle.model.proofs.Invariant.{RestIn, Facts, Left, atRest, toTake, Invariant}
+use Rattle.model.proofs.InvariantSteps.{facts-state, rest-state, facts-sent, rest-sent}
+
+-- nothing is left to take
+abbrev pub Resting : End → Type 0
+Resting e =
+    record {
+      facts : Facts e;
+      none-left : e .queue .left ≡ 0;
+      rest : RestIn e;
+    }
+
+pub resting-of : (e : End) → Invariant e → ltb 0 (e .queue .left) ≡ false → Resting e
+resting-of e g z = go (g .left)
+  where
+    go : Left e → Resting e
+    go (atRest a h) = record { facts = g .facts; none-left = a; rest = h }
+    go (toTake p a h) = let u = ltb-false 0 (e .queue .left) z in absurd (omega arith)
+
+pub invariant-of : (e : End) → Resting e → Invariant e
+invariant-of e r = record { facts = r .facts; left = atRest (r .none-left) (r .rest) }
+
+-- write
+
+some-length : (bytes : Bytes) → isEmpty bytes ≡ false → 1 ≤ length (piece bytes)
+some-length [] e = absurd (true≢false e)
+some-length (b ∷ bytes) e = omega arith
+
+pub goes-room : (p : Bytes) (s : Sender) → goes p s ≡ true → (s .seq < 4_294_967_295) × (s .seq - s .remoteAcked < ceiling)
+unfolding goes
+goes-room p s q =
+    let z = and-right (leb (s .inflight + length p) (s .cwnd)) (near && fits) q in
+    (ltb-true (s .seq) 4_294_967_295 (and-right near fits z), ltb-true (s .seq - s .remoteAcked) ceiling (and-left near fits z))
+  where
+    near : Bool
+    near = ltb (s .seq - s .remoteAcked) ceiling
+
+    fits : Bool
+    fits = ltb (s .seq) 4_294_967_295
+
+resting-write : (k : ℕ) (bytes : Bytes) (e : End) → Resting e → Resting (writeLoop k bytes e .end)
+unfolding writeLoop
+resting-write zero bytes e r = r
+resting-write (suc k) bytes e r =
+    by-test (λ (w : Written). Resting (w .end)) (not (isEmpty bytes) && goes (piece bytes) (e .sender))
+    (let w = writeLoop k (drop 1_380 bytes) (sendDataPacket (piece bytes) e) in
+    record { count = length (piece bytes) + w .count; end = w .end })
+    (record { count = 0; end = e })
+    (λ q. resting-write k (drop 1_380 bytes) (sendDataPacket (piece bytes) e) (sent q)) (λ q. r)
+  where
+    sent : (not (isEmpty bytes) && goes (piece bytes) (e .sender)) ≡ true → Resting (sendDataPacket (piece bytes) e)
+    sent q =
+        let l1 = some-length bytes (not-true (isEmpty bytes) (and-left (not (isEmpty bytes)) (goes (piece bytes) (e .sender)) q)) in
+        let l2 : length (piece bytes) ≤ 1_380 = rw length-take (omega arith) in
+        let (t, w) = goes-room (piece bytes) (e .sender) (and-right (not (isEmpty bytes)) (goes (piece bytes) (e .sender)) q) in
+        record {
+          facts = facts-sent e (piece bytes) (r .facts) l1 l2 t w;
+          none-left = r .none-left;
+          rest = rest-sent e (piece bytes) (r .facts) l1 l2 t w (r .rest);
+        }
+
+pub write-keeps : (bytes : Bytes) (e : End) → Invariant e → Invariant ((write bytes e) .end)
+unfolding writeRefusal write
+write-keeps bytes e g =
+    by-gate (λ (a : Answer). Invariant (a .end)) (writeRefusal bytes e) e (written bytes (writeLoop (length bytes) bytes e)) (λ why. g)
+    (λ z. invariant-of (writeLoop (length bytes) bytes e .end) (resting-write (length bytes) bytes e (resting-of e g (clear (writeTests bytes e) z 1))))
+
+-- a state packet, and ending
+
+pub resting-state : (e : End) → states (e .queue .entries) ≤ 62 → Resting e → Resting (sendStatePacket e)
+resting-state e l r = record { facts = facts-state e (r .facts); none-left = r .none-left; rest = rest-state e (r .facts) l (r .rest) }
+
+pub facts-terminate : (why : UdxError) (e : End) → Facts e → Facts (terminate why e)
+facts-terminate why e g = facts-state (withEnding (failed why (e .ending)) e) g
+
+pub resting-terminate : (why : UdxError) (e : End) → states (e .queue .entries) ≤ 62 → Resting e → Resting (terminate why e)
+resting-terminate why e l r = resting-state (withEnding (failed why (e .ending)) e) l r
+
+-- close
+
+pub close-keeps : (e : End) → Invariant e → Invariant ((close e) .end)
+unfolding closeRefusal close
+close-keeps e g =
+    by-gate (λ (a : Answer). Invariant (a .end)) (closeRefusal e) e (answered Ready (terminate error.ConnectionReset e)) (λ why. g)
+    (λ z.
+    let l = leb-false 63 (states (e .queue .entries)) (clear (closeTests e) z 3) in
+    invariant-of (terminate error.ConnectionReset e) (resting-terminate error.ConnectionReset e (omega arith) (resting-of e g (clear (closeTests e) z 2))))
