@@ -1,5 +1,6 @@
 // Why a stream ended and what a call answers.
 ghost use mathlib.Core.Path.{_≡_};
+ghost use mathlib.Core.Bool.{cond};
 ghost use Rattle.error.specs.Answers.{numberOf, errorOr};
 
 // The Rust's Option<UdxError>: None while the stream runs, else the error's kind.
@@ -89,5 +90,22 @@ pub fn error_or(error: UdxError, otherwise: Outcome) -> Outcome
         UdxError::ConnectionReset => Outcome::Refused(Refusal::ConnectionReset),
         UdxError::UnexpectedEof => Outcome::Refused(Refusal::UnexpectedEof),
         UdxError::TimedOut => Outcome::Refused(Refusal::TimedOut),
+    }
+}
+
+// What the refusals of a call say before it acts.
+pub enum Verdict {
+    Clear,
+    Refused(Refusal),
+}
+
+// One line of a list of refusals: this one where it applies, else what the later ones say.
+pub fn refuse_if(applies: bool, why: Refusal, later: Verdict) -> Verdict
+    ensures { λ r. ⌜ r ≡ cond applies (Verdict.Refused why) later ⌝ }
+{
+    if applies {
+        Verdict::Refused(why)
+    } else {
+        later
     }
 }
