@@ -1,6 +1,7 @@
 pub mod Lists
 pub mod Slots
 pub mod SlotSums
+pub mod SlotNumbers
 pub mod Gate
 pub mod Order
 pub mod Wire
@@ -30,3 +31,4 @@ pub mod AliveCarried
 pub mod AliveDue
 pub mod AliveBlocks
 pub mod Examples
+pub mod RulesKept

@@ -3,6 +3,7 @@ pub mod Slots
 pub mod Stream
 pub mod Answers
 pub mod Rules
+pub mod SlotNumbers
 pub mod Sending
 pub mod Receiving
 pub mod Driving
@@ -11,3 +12,4 @@ pub mod TwoEnds
 pub mod Edges
 pub mod Examples
 pub mod Alive
+pub mod RulesKept
