@@ -1,0 +1,11 @@
+pub mod OpenLaws
+pub mod WordLaws
+pub mod Table
+pub mod Put
+pub mod Cut
+pub mod SeenSlots
+pub mod SeenOutgoing
+pub mod SeenIncoming
+pub mod SeenQueue
+pub mod SeenFresh
+pub mod FormedQueue

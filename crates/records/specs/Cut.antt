@@ -1,0 +1,20 @@
+-- A lent store cut into pieces of equal size. Assumes nothing.
+use Prim.Native.Nat.{ℕ, _*_}
+use mathlib.Core.List.{List, _++_}
+use lib.ListN.{take, drop, replicate}
+
+-- the first k bytes of piece i of a store whose pieces have z bytes; filled up with zeros where the piece is shorter, so that it has k
+-- bytes always and a rule about lengths means the same of the records and of what is seen of them
+unfoldable pub cut : (z : ℕ) → List ℕ → (i k : ℕ) → List ℕ
+cut z store i k = take k (take z (drop (i * z) store) ++ replicate k 0)
+
+-- 01, 'Records': the pieces of the three stores. Shut, so that no proof counts 1,400 bytes; `out-is`, `in-is`, `head-is` in
+-- proofs/Cut.antt say how many they are.
+unfoldable pub outgoingSlot : ℕ
+outgoingSlot = 1_400
+
+unfoldable pub incomingSlot : ℕ
+incomingSlot = 1_380
+
+unfoldable pub headerSlot : ℕ
+headerSlot = 20

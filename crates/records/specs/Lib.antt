@@ -1,0 +1,6 @@
+pub mod Words
+pub mod Table
+pub mod Cut
+pub mod Put
+pub mod Seen
+pub mod Open

@@ -1,0 +1,114 @@
+// The records of a stream: its numbers by value, in the groups of the model; its packets and its queue as words of lent arrays; the
+// bytes in three lent stores. specs/Seen.antt says what they mean.
+mod opening;
+mod words;
+
+use error::Outcome;
+use error::UdxError;
+pub use opening::Opened;
+pub use opening::open;
+use rtt::Nanos;
+use rtt::Rtt;
+pub use words::Entry;
+pub use words::Held;
+pub use words::Sent;
+pub use words::clear_held;
+pub use words::clear_sent;
+pub use words::get_entry;
+pub use words::get_held;
+pub use words::get_sent;
+pub use words::is_held;
+pub use words::is_stored;
+pub use words::put_entry;
+pub use words::put_held;
+pub use words::put_sent;
+
+pub struct Ids {
+    pub local: u32,
+    pub remote: u32,
+    // The segment ceiling: most entries of a batch, 1 to 10.
+    pub segments: u8,
+}
+
+pub struct Sender {
+    // The number of the next packet.
+    pub seq: u32,
+    // Every packet below it has been settled; seq is at most 32 past it.
+    pub remote_acked: u32,
+    // The largest ack delivered since the last drive, at most seq.
+    pub largest_ack: u32,
+    // Bytes of the stored packets that do not wait.
+    pub inflight: u32,
+    // The congestion window, 1,400 or more.
+    pub cwnd: u32,
+}
+
+pub struct Receiver {
+    // Every number below it has been delivered; it is at most 32 past the read cursor.
+    pub ack: u32,
+    // The number of the packet that the next read starts with.
+    pub read_cursor: u32,
+    // Held numbers are below it; it is at most 32 past the read cursor.
+    pub top: u32,
+}
+
+// The words 0 to below count are the queue; while entries are left to take, only the last `left` of them. Nothing is pushed while some
+// are left, and with the last one taken the queue is empty again, so it needs no ring.
+pub struct Queue {
+    pub count: u32,
+    pub left: u32,
+    // State packets queued since the queue was empty: the next one's place in the header store.
+    pub states: u32,
+    // State packets taken since then: the place of the first one queued.
+    pub gone: u32,
+}
+
+// When the retransmission timer is due: a type of its own, read by `due` alone.
+pub struct Deadline(pub Nanos);
+
+pub struct Timing {
+    pub rtt: Rtt,
+    pub deadline: Deadline,
+}
+
+// The Rust's StreamState.
+pub enum StreamState {
+    Open,
+    LocalClosed,
+    RemoteClosed,
+    BothClosed,
+}
+
+pub struct Ending {
+    pub error: UdxError,
+    pub state: StreamState,
+    // A drive has answered done.
+    pub ended: bool,
+}
+
+pub struct Clocks {
+    // Of the last accepted call with a clock, below 2^60.
+    pub last: Nanos,
+    // Of the last drive, at most the last one.
+    pub drive: Nanos,
+}
+
+pub struct Stream {
+    pub ids: Ids,
+    pub sender: Sender,
+    pub receiver: Receiver,
+    pub queue: Queue,
+    pub timing: Timing,
+    pub ending: Ending,
+    pub clocks: Clocks,
+}
+
+// The Rust's StreamStats.
+pub struct Totals {
+    pub tx_packets: u64,
+    pub tx_bytes: u64,
+    pub rx_packets: u64,
+    pub rx_bytes: u64,
+    pub inflight_packets: u64,
+    pub inflight_bytes: u64,
+}
