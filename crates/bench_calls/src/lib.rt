@@ -1,0 +1,111 @@
+// What bench/ times, as C functions on plain numbers. The order of `numbers` is that of `stream` and `totals` below.
+use error::UdxError;
+use records::Clocks;
+use records::Deadline;
+use records::Ending;
+use records::Ids;
+use records::Queue;
+use records::Receiver;
+use records::Sender;
+use records::Stream;
+use records::StreamState;
+use records::Timing;
+use records::Totals;
+use rtt::Nanos;
+use rtt::Rtt;
+
+fn narrow(v: u64) -> u32 {
+    (v % 4_294_967_296) as u32
+}
+
+fn sender(n: &[u64; 24]) -> Sender {
+    Sender {
+        seq: narrow(n[0]),
+        remote_acked: narrow(n[1]),
+        largest_ack: narrow(n[2]),
+        inflight: narrow(n[3]),
+        cwnd: narrow(n[4]),
+    }
+}
+
+fn receiver(n: &[u64; 24]) -> Receiver {
+    Receiver {
+        ack: narrow(n[5]),
+        read_cursor: narrow(n[6]),
+        top: narrow(n[7]),
+    }
+}
+
+fn queue_numbers(n: &[u64; 24]) -> Queue {
+    Queue {
+        count: narrow(n[8]),
+        left: narrow(n[9]),
+        states: narrow(n[10]),
+        gone: narrow(n[11]),
+    }
+}
+
+fn timing(n: &[u64; 24]) -> Timing {
+    let rtt = Rtt {
+        srtt: Nanos(n[12]),
+        rttvar: Nanos(n[13]),
+        rto: Nanos(n[14]),
+    };
+    Timing {
+        rtt,
+        deadline: Deadline(Nanos(n[15])),
+    }
+}
+
+fn stream(n: &[u64; 24]) -> Stream {
+    let error = UdxError::None;
+    let state = StreamState::Open;
+    let ending = Ending {
+        error,
+        state,
+        ended: false,
+    };
+    let ids = Ids {
+        local: 1,
+        remote: 2,
+        segments: (n[18] % 256) as u8,
+    };
+    let clocks = Clocks {
+        last: Nanos(n[16]),
+        drive: Nanos(n[17]),
+    };
+    Stream {
+        ids,
+        sender: sender(n),
+        receiver: receiver(n),
+        queue: queue_numbers(n),
+        timing: timing(n),
+        ending,
+        clocks,
+    }
+}
+
+fn totals(n: &[u64; 24]) -> Totals {
+    Totals {
+        tx_packets: 0,
+        tx_bytes: 0,
+        rx_packets: 0,
+        rx_bytes: 0,
+        inflight_packets: n[19],
+        inflight_bytes: n[20],
+    }
+}
+
+// Refusal 1 on the whole records: 1 where they are kept.
+#[no_mangle]
+pub extern "C" fn udx_bench_rules(
+    numbers: &[u64; 24],
+    sent: &[u64; 64],
+    held: &[u64; 32],
+    queue: &[u64; 128],
+) -> u32 {
+    if rules::ok_stream(stream(numbers), totals(numbers), sent, held, queue) {
+        return 1;
+    }
+    0
+}

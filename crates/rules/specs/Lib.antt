@@ -1,0 +1,3 @@
+pub mod Ok
+pub mod Passes
+pub mod Statement

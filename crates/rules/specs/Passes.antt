@@ -1,0 +1,58 @@
+-- What the passes over the packets find, piece by piece: the rules of one packet, and what is known after a whole pass.
+-- Assumes nothing.
+use Prim.Native.Nat.{ℕ, _+_, _-_, _%_}
+use mathlib.Core.Path.{_≡_}
+use mathlib.Core.List.{List}
+use mathlib.Core.Bool.{Bool, true, cond, _&&_}
+use lib.Dec.{leb, ltb, eqb}
+use Rattle.model.specs.Lists.{on}
+use Rattle.model.specs.Slots.{ceiling}
+use Rattle.model.specs.Rules.{distinct, every}
+use Rattle.records.specs.declared.words.Sent.{Sent}
+use Rattle.records.specs.declared.words.Held.{Held}
+use Rattle.records.specs.declared.words.Entry.{Entry}
+use Rattle.records.specs.Words.{isStored, entryOf}
+use Rattle.records.specs.Seen.{sentIn}
+use Rattle.rules.specs.Ok.{everyFrom, sumFrom, timeSent, storedOk, inflightAt, packetsAt, payloadAt, stateCount, packetNumbers}
+
+-- a stored packet
+
+abbrev pub inTime : Sent → ℕ → Bool
+inTime p clock = on (timeSent p) true (λ t. leb t clock)
+
+abbrev pub packetOk : Sent → ℕ → Bool
+packetOk p clock = leb 21 (p .length) && (leb (p .length) 1_400 && (leb (p .transmits) 7 && inTime p clock))
+
+-- the pass over the stored packets: whether each keeps its rules, and the sums over them
+pub record StoredSums (acked seq clock : ℕ) (words : List ℕ) (good : Bool) (inflight packets bytes : ℕ) : Type 0 where
+  pub all : good ≡ everyFrom (seq - acked) acked (storedOk acked seq clock words)
+  pub inflight-is : inflight ≡ sumFrom (seq - acked) acked (inflightAt words)
+  pub packets-is : packets ≡ sumFrom (seq - acked) acked (packetsAt words)
+  pub bytes-is : bytes ≡ sumFrom (seq - acked) acked (payloadAt words)
+
+-- a held packet
+
+abbrev pub payloadOk : Held → Bool
+payloadOk p = leb (p .past - 1) 1_380 && leb (p .offset) (p .past - 1)
+
+-- a queue entry
+
+-- a number from remote acked to below seq
+abbrev pub known : (acked seq n : ℕ) → Bool
+known acked seq n = leb acked n && ltb n seq
+
+-- the entry of a packet: "lengths are 21 to 1,400 .. queued"; "a queued length is its packet's while that is stored"
+abbrev pub queuedOk : Bool → List ℕ → Entry → Bool
+queuedOk near sent x =
+    let p = sentIn sent (x .number % ceiling) in
+    leb 21 (x .length) && (leb (x .length) 1_400 && cond (near && isStored p (x .number)) (eqb (x .length) (p .length)) true)
+
+abbrev pub entryRule : (acked seq : ℕ) → List ℕ → ℕ → Bool
+entryRule acked seq sent w = cond (entryOf w .state) true (queuedOk (known acked seq (entryOf w .number)) sent (entryOf w))
+
+-- the pass over the entries: whether each keeps its rules, whether the packets' numbers are distinct and from remote acked to below seq, and
+-- how many state packets there are
+pub record EntriesPassed (acked seq : ℕ) (sent ws : List ℕ) (good fresh : Bool) (states : ℕ) : Type 0 where
+  pub all : good ≡ every (entryRule acked seq sent) ws
+  pub fresh-is : fresh ≡ (distinct (packetNumbers ws) && every (known acked seq) (packetNumbers ws))
+  pub states-is : states ≡ stateCount ws
