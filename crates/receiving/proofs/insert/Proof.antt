@@ -1,0 +1,30 @@
+-- `receiving::insert` meets its contract: the gap's words are cleared, then the packet's word and its bytes are put, and top passes its
+-- number. One law, of what the calls ensure. Assumes nothing.
+use borrow.Author.Needs.{needs}
+use Rattle.receiving.proofs.AbsorbLaws.{inserts}
+use Rattle.receiving.proofs.insert.Statement.{statement}
+use Rattle.receiving.proofs.insert.Tie as tie
+
+returns : tie.Need-returns
+returns c =
+    inserts (c .before .before .before .before .before .before .before .before .before .before .before .before .before .pre .0)
+    (c .before .before .before .before .before .before .before .before .before .before .before .before .before .pre .1)
+    (c .before .before .before .before .before .before .before .before .clear-gap .ensures)
+    (c .before .before .before .before .before .before .sized .ensures)
+    (c .before .before .before .before .put-held .ensures)
+    (c .before .before .put-payload .ensures)
+    (c .before .before .before .before .before .before .before .before .before .before .top-with .ensures)
+
+pub insert-spec : {M : Type 1} → statement M
+insert-spec =
+    tie.close
+    (tie.spec
+    (λ c. search needs)
+    (λ c. search needs)
+    (λ c κs. search needs)
+    (λ c κs. search needs)
+    (λ c κs. search needs)
+    (λ c κs. search needs)
+    (λ c κs. search needs)
+    (λ c. search needs)
+    returns)

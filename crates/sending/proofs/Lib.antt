@@ -1,0 +1,3 @@
+pub mod WriteLoop
+pub mod SentPiece
+pub mod Going

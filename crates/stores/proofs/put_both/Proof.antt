@@ -1,0 +1,2 @@
+-- `stores::put_both` meets its contract: the second bytes stand behind the first, and the others stay.
+-- Assumes nothing.

@@ -1,0 +1,218 @@
+-- What the functions of this crate promise: how many entries a batch has, what taking them puts into the buffer and marks in the
+-- records, the queue after it, and the next datagram. Each promise speaks of the end of the model that is seen of the records
+-- (`seen`), for any stream that has the numbers, words and stores which the function is given. Assumes nothing.
+use Prim.Native.Nat.{ℕ, zero, suc, _+_, _-_, _*_, _%_, _^_, _≤_, _<_}
+use mathlib.Core.Path.{_≡_}
+use mathlib.Core.List.{List, [], _∷_, _++_}
+use mathlib.Core.Bool.{Bool, true, cond, _&&_}
+use lib.Dec.{eqb, leb, ltb}
+use lib.ListN.{length, take, drop}
+use Rattle.model.specs.Lists.{Bytes, joined, on}
+use Rattle.model.specs.Slots.{Slots, ceiling, get, insert}
+use Rattle.model.specs.Stream as model
+use Rattle.model.specs.Rules.{rules}
+use Rattle.model.specs.Driving.{batch, marked, takenMarks, takeLoop, takenFrom, firstThere, look}
+use Rattle.records.specs.declared.words.Sent.{Sent}
+use Rattle.records.specs.declared.words.Entry.{Entry}
+use Rattle.records.specs.declared.Sender.{Sender}
+use Rattle.records.specs.declared.Queue.{Queue}
+use Rattle.records.specs.declared.Stream.{Stream}
+use Rattle.records.specs.declared.Totals.{Totals}
+use Rattle.records.specs.Words.{isStored}
+use Rattle.records.specs.Cut.{cut, outgoingSlot, headerSlot}
+use Rattle.records.specs.Put.{put}
+use Rattle.records.specs.Seen.{sentIn, seenOutgoing, seenQueue, entryWords, Lent, seen}
+use Rattle.records.proofs.SeenOutgoing.{withSent}
+use Rattle.records.proofs.SeenQueue.{stateWords}
+use Rattle.records.proofs.FormedQueue.{QueueFormed}
+use Rattle.rtt.specs.Estimate.{nanos}
+use Rattle.taking.specs.declared.Progress.{Progress}
+use Rattle.taking.specs.declared.Next.{Next}
+
+-- the records that a function is given
+
+-- a stream and lent words and stores with these numbers and words
+pub record Lends (st : Stream) (l : Lent) (q : Queue) (s : Sender) (sent queue : List ℕ) (outgoing headers : Bytes) : Type 0 where
+  pub counts : st .queue ≡ q
+  pub sender : st .sender ≡ s
+  pub packets : l .sent ≡ sent
+  pub words : l .queue ≡ queue
+  pub store : l .outgoing ≡ outgoing
+  pub heads : l .headers ≡ headers
+
+-- 01, 'Rules of the records': "lengths are 21 to 1,400 stored"; "transmits are at most 7"
+pub record Within (p : Sent) (transmits : ℕ) : Type 0 where
+  pub short : p .length ≤ 1_400
+  pub few : p .transmits ≤ transmits
+
+-- the same of every stored packet, from remote acked to below seq
+abbrev pub Stored : Sender → List ℕ → ℕ → Type 0
+Stored s sent transmits =
+    (n : ℕ) → s .«remote_acked» ≤ n → n < s .seq → isStored (sentIn sent (n % ceiling)) n ≡ true → Within (sentIn sent (n % ceiling)) transmits
+
+-- the records keep the rules as far as they are read here; 01: "32 slots of 1,400 bytes", "64 queued state packets of 20 bytes"
+pub record Kept (q : Queue) (s : Sender) (sent queue : List ℕ) (outgoing headers : Bytes) : Type 0 where
+  pub formed : QueueFormed q queue
+  pub stored : Stored s sent 7
+  pub slots : length outgoing ≡ 44_800
+  pub places : length headers ≡ 1_280
+
+-- batch
+
+-- the bytes of an entry's datagram, a state packet being a header
+abbrev pub entrySize : Entry → ℕ
+entrySize x = cond (x .state) 20 (x .length)
+
+-- 01, call 5: "the next batch, at most the ceiling of equal-length entries" (poll_transmit)
+pub record Batched (q : Queue) (segments : ℕ) (queue : List ℕ) (r : ℕ) : Type 0 where
+  pub count : (st : Stream) (t : Totals) (l : Lent) → st .queue ≡ q → st .ids .segments ≡ segments → l .queue ≡ queue → r ≡ batch (seen st t l)
+  pub some : 1 ≤ segments → 1 ≤ r
+  pub most : r ≤ segments
+  pub left : r ≤ q .left
+
+-- to_transmit
+
+-- 01, call 5: "that packet gets time sent = clock of that drive and one transmit more"
+abbrev pub takenPacket : Sent → ℕ → Sent
+takenPacket p clock =
+    record { number = p .number; length = p .length; transmits = p .transmits + 1; waiting = p .waiting; timed = true; «sent_at» = nanos clock }
+
+-- a state packet's bytes are put
+pub record TakesState (p : Progress) (headers buf : Bytes) (r : Progress) (buf′ : Bytes) : Type 0 where
+  pub bytes : buf′ ≡ put buf (p .at) (take 20 (drop (p .place * 20) headers))
+  pub at : r .at ≡ p .at + 20
+  pub place : r .place ≡ p .place + 1
+
+-- a stored packet's bytes are put, and it is marked
+pub record TakesPacket (p : Progress) (x : Sent) (clock : ℕ) (sent : List ℕ) (outgoing buf : Bytes) (r : Progress) (sent′ : List ℕ) (buf′ : Bytes) : Type 0 where
+  pub bytes : buf′ ≡ put buf (p .at) (take (x .length) (drop (x .number % 32 * 1_400) outgoing))
+  pub marks : sent′ ≡ withSent sent (x .number) (takenPacket x clock)
+  pub at : r .at ≡ p .at + x .length
+  pub place : r .place ≡ p .place
+
+-- the model's takeEntry and takeLoop on the outgoing store alone: the datagrams of some entries, and the store after them
+pub record Sends : Type 0 where
+  pub datagrams : List Bytes
+  pub outgoing : Slots model.Packet
+
+unfoldable pub sendEntry : (clock : ℕ) → model.Entry → Slots model.Packet → Sends
+sendEntry clock (model.state b) s = record { datagrams = b ∷ []; outgoing = s }
+sendEntry clock (model.packet n l) s =
+    on (get s n) (record { datagrams = []; outgoing = s })
+    (λ p. record { datagrams = p .bytes ∷ []; outgoing = insert s n (marked (takenMarks clock) p) })
+
+unfoldable pub sendLoop : (clock count : ℕ) → List model.Entry → Slots model.Packet → Sends
+sendLoop clock zero q s = record { datagrams = []; outgoing = s }
+sendLoop clock (suc k) [] s = record { datagrams = []; outgoing = s }
+sendLoop clock (suc k) (x ∷ q) s =
+    let t = sendEntry clock x s in
+    let r = sendLoop clock k q (t .outgoing) in
+    record { datagrams = t .datagrams ++ r .datagrams; outgoing = r .outgoing }
+
+-- what an entry is in the model, a state packet's bytes being at `place` of the header store
+abbrev pub entrySeen : Bytes → ℕ → Entry → model.Entry
+entrySeen headers place x = cond (x .state) (model.state (cut headerSlot headers place 20)) (model.packet (x .number) (x .length))
+
+-- what is stored, seen
+abbrev pub storeSeen : Sender → List ℕ → Bytes → Slots model.Packet
+storeSeen s sent outgoing = seenOutgoing (s .«remote_acked») (s .seq) sent outgoing
+
+-- the datagrams stand one after another in the buffer from `at` to `end`, the bytes past them stay, and the packets are marked
+pub record Written (t : Sends) (at : ℕ) (buf : Bytes) (end : ℕ) (buf′ : Bytes) (marked : Slots model.Packet) : Type 0 where
+  pub bytes : buf′ ≡ put buf at (joined (t .datagrams))
+  pub count : end ≡ at + length (joined (t .datagrams))
+  pub marks : marked ≡ t .outgoing
+
+-- packet n is stored, of the numbers and in its slot
+abbrev pub isThere : Sender → List ℕ → ℕ → Bool
+isThere s sent n = leb (s .«remote_acked») n && (ltb n (s .seq) && isStored (sentIn sent (n % ceiling)) n)
+
+-- what taking one entry needs: its packet keeps the rules but for the marks of this take, and its bytes have room
+pub record EntryKept (s : Sender) (x : Entry) (clock : ℕ) (p : Progress) (sent : List ℕ) (outgoing headers buf : Bytes) : Type 0 where
+  pub words : length sent ≡ 64
+  pub packet : isThere s sent (x .number) ≡ true → Within (sentIn sent (x .number % ceiling)) 30
+  pub drive : clock < 2 ^ 60
+  pub slots : length outgoing ≡ 44_800
+  pub places : length headers ≡ 1_280
+  pub next : x .state ≡ true → p .place < 64
+  pub room : p .at + 1_400 ≤ length buf
+
+-- one entry is taken; "An entry whose packet has left the store counts but writes nothing"
+pub record TakesEntry (s : Sender) (x : Entry) (clock : ℕ) (p : Progress) (sent : List ℕ) (outgoing headers buf : Bytes) (r : Progress)
+    (sent′ : List ℕ) (buf′ : Bytes) : Type 0 where
+  pub written : Written (sendEntry clock (entrySeen headers (p .place) x) (storeSeen s sent outgoing)) (p .at) buf (r .at) buf′ (storeSeen s sent′ outgoing)
+  pub place : r .place ≡ p .place + cond (x .state) 1 0
+  pub short : r .at ≤ p .at + 1_400
+  pub words : length sent′ ≡ length sent
+
+-- the queue without its first k entries, `place` being that of the next state packet; with the last one taken it is empty, and the
+-- places start again
+abbrev pub takenQueue : Queue → (k place : ℕ) → Queue
+takenQueue q k place =
+    cond (eqb (q .left - k) 0) (record { count = 0; left = 0; states = 0; gone = 0 })
+    (record { count = q .count; left = q .left - k; states = q .states; gone = place })
+
+-- the records after a take: another queue and other words of the stored packets
+abbrev pub takenStream : Queue → Stream → Stream
+takenStream q st =
+    record {
+      ids = st .ids;
+      sender = st .sender;
+      receiver = st .receiver;
+      queue = q;
+      timing = st .timing;
+      ending = st .ending;
+      clocks = st .clocks;
+    }
+
+abbrev pub takenLent : List ℕ → Lent → Lent
+takenLent sent l = record { sent = sent; held = l .held; queue = l .queue; outgoing = l .outgoing; incoming = l .incoming; headers = l .headers }
+
+-- what a take of k entries needs: 01's rules, refusal 2 and that they are left to take
+pub record Takeable (q : Queue) (s : Sender) (k clock : ℕ) (sent queue : List ℕ) (outgoing headers buf : Bytes) : Type 0 where
+  pub kept : Kept q s sent queue outgoing headers
+  pub some : 1 ≤ q .left
+  pub entries : k ≤ q .left
+  pub most : k ≤ 10
+  pub drive : clock < 2 ^ 60
+  pub room : 14_000 ≤ length buf
+
+-- 01, call 5, of the first k entries of an end e, which is e′ then: the bytes, their count and the end are the model's
+pub record Took (k : ℕ) (e e′ : model.End) (buf : Bytes) (at : ℕ) (buf′ : Bytes) : Type 0 where
+  pub bytes : buf′ ≡ put buf 0 (joined (takeLoop k (e .queue .entries) e .datagrams))
+  pub count : at ≡ length (joined (takeLoop k (e .queue .entries) e .datagrams))
+  pub end : e′ ≡ takenFrom k (takeLoop k (e .queue .entries) e .end)
+
+-- a take of k entries (to_transmit)
+pub record Takes (q : Queue) (s : Sender) (k clock : ℕ) (sent queue : List ℕ) (outgoing headers buf : Bytes) (r : Progress)
+    (sent′ : List ℕ) (buf′ : Bytes) : Type 0 where
+  pub place : r .place ≡ q .gone + stateWords (take k (entryWords q queue))
+  pub room : r .at ≤ 14_000
+  pub took : (st : Stream) (t : Totals) (l : Lent) → Lends st l q s sent queue outgoing headers → st .clocks .drive .0 ≡ clock
+      → Took k (seen st t l) (seen (takenStream (takenQueue q k (r .place)) st) t (takenLent sent′ l)) buf (r .at) buf′
+
+-- the queue stays laid out as it was
+pub record TakesQueue (q : Queue) (k place : ℕ) (r : Queue) : Type 0 where
+  pub queue : r ≡ takenQueue q k place
+  pub formed : (queue : List ℕ) → QueueFormed q queue → place ≡ q .gone + stateWords (take k (entryWords q queue)) → QueueFormed r queue
+
+-- look
+
+-- 01, 'Added by design': "the next datagram (first entry left to take whose packet is there) .., an empty part when nothing is left
+-- to take"
+abbrev pub nextSeen : Queue → Sender → List ℕ → List ℕ → Bytes → Bytes → Bytes
+nextSeen q s sent queue outgoing headers = cond (ltb 0 (q .left)) (firstThere (storeSeen s sent outgoing) (seenQueue q queue headers .entries)) []
+
+-- the bytes of what the search answers
+abbrev pub nextBytes : Bytes → Bytes → Next → Bytes
+nextBytes outgoing headers x =
+    cond (x .state) (cut headerSlot headers (x .number) 20) (cut outgoingSlot outgoing (x .number % ceiling) (x .length))
+
+pub record Finds (q : Queue) (s : Sender) (sent queue : List ℕ) (r : Next) : Type 0 where
+  pub shown : (outgoing headers : Bytes) → nextBytes outgoing headers r ≡ nextSeen q s sent queue outgoing headers
+  pub place : r .state ≡ true → r .number < 64
+  pub short : r .length ≤ 1_400
+
+pub record Shows (q : Queue) (s : Sender) (sent queue : List ℕ) (outgoing headers shown : Bytes) : Type 0 where
+  pub next : shown ≡ nextSeen q s sent queue outgoing headers
+  pub look : (st : Stream) (t : Totals) (l : Lent) → Lends st l q s sent queue outgoing headers → rules (seen st t l) ≡ true → shown ≡ look (seen st t l)

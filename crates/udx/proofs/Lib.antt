@@ -1,0 +1,3 @@
+pub mod RefusalLaws
+pub mod Resting
+pub mod WriteLaws

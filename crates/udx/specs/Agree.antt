@@ -1,0 +1,58 @@
+-- How an answer on the records is the model's: refusal 1 on records that are not laid out as they should be, else the model's answer on
+-- what is seen of them. A refused call changes nothing. Assumes nothing.
+use Prim.Native.Nat.{ℕ}
+use mathlib.Core.Path.{_≡_}
+use mathlib.Core.List.{List, []}
+use mathlib.Core.Option.{Option, none, some}
+use mathlib.Core.Bool.{Bool, true, cond, _&&_, not}
+use lib.Dec.{eqb}
+use Rattle.error.specs.declared.Refusal.{Refusal}
+use Rattle.error.specs.declared.Refusal.the-variants.{BrokenRecords}
+use Rattle.error.specs.declared.Outcome.{Outcome}
+use Rattle.error.specs.declared.Outcome.the-variants.{Refused}
+use Rattle.model.specs.Stream.{End}
+use Rattle.model.specs.Answers.{Answer, refused}
+use Rattle.records.specs.declared.Stream.{Stream}
+use Rattle.records.specs.declared.Totals.{Totals}
+use Rattle.records.specs.Seen.{Lent, seen, formed}
+use Rattle.records.specs.Open.{storesTest}
+use Rattle.udx.specs.declared.step.Step.{Step}
+
+-- the words and the stores that a call is lent
+abbrev pub lent : (sent held queue outgoing incoming headers : List ℕ) → Lent
+lent sent held queue outgoing incoming headers =
+    record { sent = sent; held = held; queue = queue; outgoing = outgoing; incoming = incoming; headers = headers }
+
+-- the stores have their lengths and the records are laid out as they should be
+unfoldable pub laidOut : Stream → Lent → Bool
+laidOut s l = not (storesTest (l .outgoing) (l .incoming) (l .headers)) && formed s (l .queue)
+
+-- a call of the model on records
+unfoldable pub onRecords : (End → Answer) → Stream → Totals → Lent → Answer
+onRecords call s t l = cond (laidOut s l) (call (seen s t l)) (refused BrokenRecords (seen s t l))
+
+abbrev pub segmentOf : ℕ → Option ℕ
+segmentOf n = cond (eqb n 0) none (some n)
+
+abbrev pub refusedStep : Stream → Totals → Refusal → Step
+refusedStep s t why = record { stream = s; totals = t; outcome = Refused why; count = 0; segment = 0 }
+
+-- an answer on the records, with the words and stores after the call, is this answer of the model
+pub record Agrees (a : Answer) (r : Step) (after : Lent) : Type 0 where
+  pub outcome : r .outcome ≡ a .outcome
+  pub count : r .count ≡ a .count
+  pub segment : segmentOf (r .segment) ≡ a .segment
+  pub end : seen (r .stream) (r .totals) after ≡ a .end
+
+-- "Each returns its number and changes nothing": no number, no total, no word and no byte
+pub record Unchanged (s : Stream) (t : Totals) (before : Lent) (r : Step) (after : Lent) : Type 0 where
+  pub stream : r .stream ≡ s
+  pub totals : r .totals ≡ t
+  pub lent : after ≡ before
+
+-- a call on the records answers as the model's call
+pub record Answers (call : End → Answer) (s : Stream) (t : Totals) (before : Lent) (r : Step) (after : Lent) : Type 0 where
+  pub agrees : Agrees (onRecords call s t before) r after
+  -- records that are laid out stay so
+  pub stays : laidOut s before ≡ true → laidOut (r .stream) after ≡ true
+  pub changes-nothing : (why : Refusal) → r .outcome ≡ Refused why → Unchanged s t before r after
