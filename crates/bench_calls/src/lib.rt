@@ -109,3 +109,39 @@ pub extern "C" fn udx_bench_rules(
     }
     0
 }
+
+// One write: the bytes accepted.
+#[no_mangle]
+pub extern "C" fn udx_bench_write(
+    numbers: &[u64; 24],
+    sent: &mut [u64; 64],
+    held: &[u64; 32],
+    queue: &mut [u64; 128],
+    outgoing: &mut [u8],
+    incoming: &[u8],
+    headers: &[u8],
+    bytes: &[u8],
+) -> usize {
+    let s = stream(numbers);
+    let t = totals(numbers);
+    let r = udx::write(s, t, sent, held, queue, outgoing, incoming, headers, bytes);
+    r.count
+}
+
+// One take: the bytes put.
+#[no_mangle]
+pub extern "C" fn udx_bench_take(
+    numbers: &[u64; 24],
+    sent: &mut [u64; 64],
+    held: &[u64; 32],
+    queue: &[u64; 128],
+    outgoing: &[u8],
+    incoming: &[u8],
+    headers: &[u8],
+    buf: &mut [u8],
+) -> usize {
+    let s = stream(numbers);
+    let t = totals(numbers);
+    let r = udx::take(s, t, sent, held, queue, outgoing, incoming, headers, buf);
+    r.count
+}

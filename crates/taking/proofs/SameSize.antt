@@ -20,7 +20,7 @@ use Rattle.records.specs.Cut.{headerSlot}
 use Rattle.records.specs.Seen.{seenEntries, seenQueue, entryWords, Lent, seen}
 use Rattle.records.proofs.Cut.{cut-length}
 use Rattle.records.proofs.SeenQueue.{left-length}
-use Rattle.taking.specs.Take.{entrySize, Batched}
+use Rattle.taking.specs.Take.{entrySize, Batched, Heads}
 
 -- the size that the word at a place says
 abbrev sizeAt : List ℕ → ℕ → ℕ
@@ -122,3 +122,8 @@ module _ (q : Queue) (segments : ℕ) (queue : List ℕ) (some : 1 ≤ q .left) 
         most = omega arith;
         left = omega arith;
       }
+
+  -- the first one's length
+  pub heads : (r : ℕ) → r ≡ sizeAt (entryWords q queue) 0 → Heads q queue r
+  unfolding seen seenQueue
+  heads r e = record { size = λ st t l e₁ e₂. e ∙ (rw (e₁, e₂) (sym (head-size (l .headers)))) }

@@ -11,7 +11,7 @@ use Rattle.model.specs.Lists.{Bytes, joined, on}
 use Rattle.model.specs.Slots.{Slots, ceiling, get, insert}
 use Rattle.model.specs.Stream as model
 use Rattle.model.specs.Rules.{rules}
-use Rattle.model.specs.Driving.{batch, marked, takenMarks, takeLoop, takenFrom, firstThere, look}
+use Rattle.model.specs.Driving.{headLength, batch, marked, takenMarks, takeLoop, takenFrom, firstThere, look}
 use Rattle.records.specs.declared.words.Sent.{Sent}
 use Rattle.records.specs.declared.words.Entry.{Entry}
 use Rattle.records.specs.declared.Sender.{Sender}
@@ -69,6 +69,10 @@ pub record Batched (q : Queue) (segments : ℕ) (queue : List ℕ) (r : ℕ) : T
   pub some : 1 ≤ segments → 1 ≤ r
   pub most : r ≤ segments
   pub left : r ≤ q .left
+
+-- the first entry's length
+pub record Heads (q : Queue) (queue : List ℕ) (r : ℕ) : Type 0 where
+  pub size : (st : Stream) (t : Totals) (l : Lent) → st .queue ≡ q → l .queue ≡ queue → r ≡ headLength (seen st t l .queue .entries)
 
 -- to_transmit
 

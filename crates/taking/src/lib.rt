@@ -11,6 +11,7 @@ ghost use Rattle.records.proofs.FormedQueue.{QueueFormed};
 ghost use Rattle.taking.specs.Take.{
   entrySize,
   Batched,
+  Heads,
   takenPacket,
   Within,
   Stored,
@@ -93,6 +94,15 @@ pub fn batch(q: Queue, segments: u8, queue: &[u64; 128]) -> u32
         k += 1;
     }
     k
+}
+
+// The length of the first entry left to take: the segment size of its batch.
+pub fn head_length(q: Queue, queue: &[u64; 128]) -> u32
+    requires { ⌜ (q .left ≤ q .count) × (q .count ≤ 128) × (1 ≤ q .left) ⌝ }
+    ensures { λ r. ⌜ Heads q (now (queue .entry)) r ⌝ }
+{
+    queue_length(queue);
+    entry_size(left_entry(q, queue, 0))
 }
 
 // its bytes and marks

@@ -1,3 +1,6 @@
+pub mod LookLaws
 pub mod RefusalLaws
 pub mod Resting
+pub mod TakeLaws
+pub mod Unbroken
 pub mod WriteLaws

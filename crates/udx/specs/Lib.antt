@@ -1,3 +1,5 @@
 pub mod Agree
+pub mod Look
 pub mod Refusals
+pub mod Take
 pub mod Write

@@ -38,3 +38,7 @@ writeVerdict broken s empty =
     (cond (ltb 0 (s .queue .left)) (Refused refusal.BatchesLeft)
     (errorVerdict (s .ending .error)
     (cond (not empty && leb 4_294_967_295 (s .sender .seq)) (Refused refusal.SeqExhausted) Clear)))
+
+-- refusals 1 and 2 of a take
+unfoldable pub takeVerdict : (broken : Bool) → (room : ℕ) → Verdict
+takeVerdict broken room = cond broken (Refused refusal.BrokenRecords) (cond (ltb room 14_000) (Refused refusal.ShortBuffer) Clear)

@@ -1,0 +1,67 @@
+/* Times write and take, refusal 1 included: a write on a fresh stream, and a take of ten packets. */
+#include <stdint.h>
+#include <stdio.h>
+#include <string.h>
+#include <time.h>
+
+extern uint64_t udx_bench_write(const uint64_t *numbers, uint64_t *sent, const uint64_t *held, uint64_t *queue, uint8_t *outgoing, uint64_t,
+                                const uint8_t *incoming, uint64_t, const uint8_t *headers, uint64_t, const uint8_t *bytes, uint64_t);
+extern uint64_t udx_bench_take(const uint64_t *numbers, uint64_t *sent, const uint64_t *held, const uint64_t *queue, const uint8_t *outgoing,
+                               uint64_t, const uint8_t *incoming, uint64_t, const uint8_t *headers, uint64_t, uint8_t *buf, uint64_t);
+
+static uint64_t numbers[24], sent[64], held[32], queue[128], fresh[64];
+static uint8_t outgoing[44800], incoming[44160], headers[1280], bytes[1380], buf[14000];
+
+static double now(void) {
+    struct timespec t;
+    clock_gettime(CLOCK_MONOTONIC, &t);
+    return t.tv_sec * 1e9 + t.tv_nsec;
+}
+
+/* A stream with ten packets of this payload stored and left to take, or none. */
+static void fill(unsigned stored, unsigned payload) {
+    uint64_t length = payload + 20;
+    memset(fresh, 0, sizeof fresh);
+    for (unsigned n = 0; n < stored; n++) {
+        fresh[n] = (uint64_t)n << 32 | length << 6;
+        queue[n] = (uint64_t)n << 32 | length << 1;
+    }
+    uint64_t values[24] = {stored, 0, 0, stored * length, 100000, 0, 0, 0, stored, stored, 0, 0,
+                           0, 0, 1000000000, 1000000000, 9, 9, 10, stored, (uint64_t)stored * payload};
+    memcpy(numbers, values, sizeof values);
+}
+
+static uint64_t one_write(unsigned payload) {
+    return udx_bench_write(numbers, sent, held, queue, outgoing, sizeof outgoing, incoming, sizeof incoming, headers, sizeof headers, bytes, payload);
+}
+
+/* The marks are set back first, since a packet may be taken only so often. */
+static uint64_t one_take(unsigned payload) {
+    (void)payload;
+    memcpy(sent, fresh, sizeof fresh);
+    return udx_bench_take(numbers, sent, held, queue, outgoing, sizeof outgoing, incoming, sizeof incoming, headers, sizeof headers, buf, sizeof buf);
+}
+
+static void report(const char *name, uint64_t (*call)(unsigned), unsigned stored, unsigned payload, uint64_t answer) {
+    const int rounds = 1000000;
+    uint64_t sum = 0;
+    double best = 1e18;
+    fill(stored, payload);
+    for (int pass = 0; pass < 5; pass++) {
+        double start = now();
+        for (int i = 0; i < rounds; i++)
+            sum += call(payload);
+        double ns = (now() - start) / rounds;
+        if (ns < best)
+            best = ns;
+    }
+    printf("%-32s %7.1f ns%s\n", name, best, sum == 5ull * rounds * answer ? "" : "  (another answer)");
+}
+
+int main(void) {
+    report("write of 1,380 bytes", one_write, 0, 1380, 1380);
+    report("write of 30 bytes", one_write, 0, 30, 30);
+    report("take of ten, 1,380 bytes each", one_take, 10, 1380, 14000);
+    report("take of ten, 30 bytes each", one_take, 10, 30, 500);
+    return 0;
+}

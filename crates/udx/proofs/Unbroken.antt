@@ -1,0 +1,61 @@
+-- What refusal 1 leaves: where it does not come, the stores have their lengths, the records are laid out and what is seen of them keeps
+-- the rules. Assumes nothing.
+use Prim.Native.Nat.{ℕ}
+use mathlib.Core.Path.{_≡_, refl, sym, _∙_}
+use mathlib.Core.Bool.{Bool, true, false, _&&_, _||_, not}
+use lib.Dec.{eqb}
+use lib.ListN.{length}
+use borrow.Author.Tests.{eqb-true}
+use Rattle.model.specs.Rules.{rules}
+use Rattle.model.proofs.Gate.{and-right}
+use Rattle.records.specs.declared.Stream.{Stream}
+use Rattle.records.specs.declared.Totals.{Totals}
+use Rattle.records.specs.Seen.{Lent, seen, formed, formedReceiver}
+use Rattle.records.specs.Open.{storesTest}
+use Rattle.records.proofs.FormedQueue.{QueueFormed, queue-says}
+use Rattle.rules.specs.Ok.{okStream}
+use Rattle.rules.proofs.Seen.{ok-says}
+use Rattle.udx.specs.Agree.{laidOut}
+use Rattle.udx.specs.Refusals.{brokenRecords}
+
+pub record Whole (s : Stream) (t : Totals) (l : Lent) : Type 0 where
+  pub outgoing : length (l .outgoing) ≡ 44_800
+  pub incoming : length (l .incoming) ≡ 44_160
+  pub headers : length (l .headers) ≡ 1_280
+  pub laid : laidOut s l ≡ true
+  pub queue : QueueFormed (s .queue) (l .queue)
+  pub kept : rules (seen s t l) ≡ true
+
+neither : (a b : Bool) → (a || not b) ≡ false → (a ≡ false) × (b ≡ true)
+neither false true h = (refl, refl)
+neither false false h = (refl, sym h)
+neither true b h = (h, clash b h)
+  where
+    clash : (b : Bool) → true ≡ false → b ≡ true
+    clash true z = refl
+    clash false z = sym z
+
+lengths : (a b c : Bool) → (not a || (not b || not c)) ≡ false → (a ≡ true) × (b ≡ true) × (c ≡ true)
+lengths true true true h = (refl, refl, refl)
+lengths true true false h = (refl, refl, sym h)
+lengths true false true h = (refl, sym h, refl)
+lengths true false false h = (refl, sym h, sym h)
+lengths false true true h = (sym h, refl, refl)
+lengths false true false h = (sym h, refl, sym h)
+lengths false false true h = (sym h, sym h, refl)
+lengths false false false h = (sym h, sym h, sym h)
+
+pub unbroken : (s : Stream) (t : Totals) (l : Lent) → length (l .queue) ≡ 128 → brokenRecords s t l ≡ false → Whole s t l
+unfolding brokenRecords laidOut formed
+unbroken s t l len h =
+    let (stores, ok) = neither (storesTest (l .outgoing) (l .incoming) (l .headers)) (okStream s t (l .sent) (l .held) (l .queue)) h in
+    let (a, b, c) = lengths (eqb (length (l .outgoing)) 44_800) (eqb (length (l .incoming)) 44_160) (eqb (length (l .headers)) 1_280) stores in
+    let (laid, kept) = ok-says s t l len ok in
+    record {
+      outgoing = eqb-true _ _ a;
+      incoming = eqb-true _ _ b;
+      headers = eqb-true _ _ c;
+      laid = rw stores laid;
+      queue = queue-says (s .queue) (l .queue) (and-right (formedReceiver (s .receiver)) _ laid);
+      kept = kept;
+    }
