@@ -3,14 +3,14 @@ use Prim.Native.Nat.{ℕ, _≤_, _<_, _^_}
 use mathlib.Core.Path.{_≡_, refl, ap, _∙_}
 use mathlib.Core.List.{List}
 use mathlib.Core.Logic.{_≢_}
-use mathlib.Core.Option.{Option, none, some}
+use mathlib.Core.Option.{none, some}
 use lib.ListN.{length}
 use borrow.Author.Tests.{eq-eqb, ne-eqb, lt-ltb, le-ltb, le-leb, lt-leb}
 use Rattle.error.specs.declared.Refusal.{Refusal}
 use Rattle.error.specs.declared.Refusal.the-variants.{BrokenRecords, SegmentCeiling, BadClock}
 use Rattle.error.specs.declared.Outcome.the-variants.{Ready}
 use Rattle.records.specs.declared.opening.Opened.{Opened}
-use Rattle.records.specs.Open.{freshStream, freshTotals, openWhy, openedStream, openedOutcome, refusedOpen, Opens}
+use Rattle.records.specs.Open.{freshStream, freshTotals, openWhy, refusedOpen, Opens}
 
 module _ (local remote segments clock : ℕ) (outgoing incoming headers : List ℕ) where
   pub refuses : (r : Opened) (why : Refusal) → openWhy segments clock outgoing incoming headers ≡ some why → r ≡ refusedOpen why

@@ -1,22 +1,22 @@
 -- The queue's rules from what the pass over its entries finds: the rules of one entry, the two kinds of entries counted, and the tests
 -- one after the other. Assumes nothing.
-use Prim.Native.Nat.{ℕ, suc, _+_, _-_, _%_, _<_, _≤_}
+use Prim.Native.Nat.{ℕ, _+_, _-_, _%_, _<_, _≤_}
 use native.Mathlib.Omega.{arith}
-use mathlib.Core.Path.{_≡_, refl, ap, _∙_, sym}
+use mathlib.Core.Path.{_≡_, refl, ap, _∙_}
 use mathlib.Core.List.{List, [], _∷_}
-use mathlib.Core.Option.{Option, none, some}
+use mathlib.Core.Option.{none, some}
 use mathlib.Core.Bool.{Bool, true, false, cond, _&&_, and-assoc}
 use lib.Dec.{leb, ltb, eqb}
 use lib.ListN.{length, take, drop}
 use lib.Seq.{length-slice}
-use borrow.Author.Tests.{le-leb, lt-leb, eqb-true}
+use borrow.Author.Tests.{le-leb, lt-leb}
 use Rattle.model.specs.Rules.{distinct, every}
 use Rattle.records.specs.declared.Sender.{Sender}
 use Rattle.records.specs.declared.Queue.{Queue}
 use Rattle.records.specs.Words.{isStored, entryOf}
 use Rattle.records.specs.Seen.{sentIn, firstEntry, entryWords}
-use Rattle.rules.specs.Ok.{sameLength, storedLength, entryOk, entriesOk, stateCount, packetNumbers, placesOk, okQueue}
-use Rattle.rules.specs.Passes.{known, queuedOk, entryRule, EntriesPassed}
+use Rattle.rules.specs.Ok.{sameLength, entryOk, stateCount, packetNumbers, placesOk, okQueue}
+use Rattle.rules.specs.Passes.{known, entryRule, EntriesPassed}
 
 -- one entry
 

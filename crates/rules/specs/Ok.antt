@@ -4,11 +4,11 @@
 use Prim.Native.Nat.{ℕ, zero, suc, _+_, _-_, _%_}
 use mathlib.Core.List.{List, [], _∷_}
 use mathlib.Core.Option.{Option, none, some}
-use mathlib.Core.Bool.{Bool, true, false, cond, _&&_}
+use mathlib.Core.Bool.{Bool, true, cond, _&&_}
 use lib.Dec.{ltb, leb, eqb}
 use lib.ListN.{length, getD}
 use Rattle.model.specs.Slots.{ceiling}
-use Rattle.model.specs.Rules.{absent, distinct, every, storedRule, heldRule, rttRanges, cwndRange, segmentsRange}
+use Rattle.model.specs.Rules.{distinct, every, storedRule, heldRule, rttRanges, cwndRange, segmentsRange}
 use Rattle.records.specs.declared.words.Sent.{Sent}
 use Rattle.records.specs.declared.words.Entry.{Entry}
 use Rattle.records.specs.declared.Sender.{Sender}

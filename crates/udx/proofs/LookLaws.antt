@@ -1,6 +1,6 @@
 -- Look on the records shows what the model's look shows. Assumes nothing.
-use mathlib.Core.Path.{_≡_, refl, sym, _∙_}
-use mathlib.Core.List.{List, []}
+use mathlib.Core.Path.{_≡_, refl, sym}
+use mathlib.Core.List.{[]}
 use mathlib.Core.Bool.{Bool, true, false, cond, _&&_, _||_, not, true≢false}
 use lib.Dec.{ltb}
 use lib.ListN.{length}
@@ -12,12 +12,12 @@ use Rattle.records.specs.declared.Totals.{Totals}
 use Rattle.records.specs.Seen.{Lent, seen, formed}
 use Rattle.records.specs.Open.{storesTest}
 use Rattle.rules.proofs.Seen.{ok-seen}
-use Rattle.taking.specs.Take.{Kept, Shows, Lends}
+use Rattle.taking.specs.Take.{Kept, Shows}
 use Rattle.taking.proofs.RulesTake.{rules-kept}
 use Rattle.udx.specs.Agree.{laidOut}
 use Rattle.udx.specs.Look.{shownOf}
 use Rattle.udx.specs.Refusals.{brokenRecords}
-use Rattle.udx.proofs.Unbroken.{Whole, unbroken}
+use Rattle.udx.proofs.Unbroken.{unbroken}
 
 nothing : (differ laid kept left : Bool) (shown : Bytes) → (differ || not (laid && kept)) ≡ true → [] ≡ cond (not differ && laid) (cond (kept && left) shown []) []
 nothing true laid kept left shown h = refl

@@ -2,23 +2,22 @@
 -- the slots, and a queue at rest by its distinct numbers. Assumes nothing.
 use Prim.Native.Nat.{ℕ, zero, suc, _+_, _-_, _*_, _%_, _≤_, _<_}
 use native.Mathlib.Omega.{arith}
-use mathlib.Core.Path.{_≡_, refl, sym, ap, _∙_, subst}
+use mathlib.Core.Path.{_≡_, refl, sym, _∙_, subst}
 use mathlib.Core.List.{List, [], _∷_}
-use mathlib.Core.Option.{Option, none, some}
-use mathlib.Core.Bool.{Bool, true, false, cond, _&&_, _||_, not}
-use lib.Dec.{ltb, leb, eqb}
-use lib.ListN.{length, getD}
+use mathlib.Core.Bool.{Bool, true, false, cond, _||_, not}
+use lib.Dec.{eqb}
+use lib.ListN.{length}
 use borrow.Author.Tests.{eqb-true}
-use Rattle.model.specs.Slots.{Numbered, ceiling}
-use Rattle.model.specs.Stream.{Packet, Entry, state, packet}
-use Rattle.model.specs.Rules.{rules, sum, inflightOf, payloadOf, states, numbers, segmentsRange, rttRanges}
-use Rattle.model.specs.RulesKept.{Kept, Every}
+use Rattle.model.specs.Slots.{ceiling}
+use Rattle.model.specs.Stream.{Entry, state, packet}
+use Rattle.model.specs.Rules.{sum, inflightOf, payloadOf, states, numbers, segmentsRange, rttRanges}
+use Rattle.model.specs.RulesKept.{Every}
 use Rattle.model.proofs.Gate.{and-left, and-right}
 use Rattle.model.proofs.RulesKept.{rules-say, sum-most, distinct-few}
 use Rattle.records.specs.declared.Stream.{Stream}
 use Rattle.records.specs.declared.Totals.{Totals}
 use Rattle.records.specs.Words.{isStored}
-use Rattle.records.specs.Seen.{Lent, sentIn, outgoingSlotAt, seen, seenOutgoing, seenQueue, seenEntries, entryWords, formed, formedReceiver, formedQueue}
+use Rattle.records.specs.Seen.{Lent, sentIn, outgoingSlotAt, seen, seenOutgoing, seenQueue, entryWords, formed, formedReceiver}
 use Rattle.records.specs.Open.{storesTest}
 use Rattle.records.proofs.Table.{table-length}
 use Rattle.records.proofs.SeenQueue.{entries-length, rest-length}

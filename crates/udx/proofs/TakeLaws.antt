@@ -1,16 +1,15 @@
 -- A take on the records answers as the model's: refused, with nothing left, or the next batch. Assumes nothing.
-use Prim.Native.Nat.{ℕ, zero, suc, _+_, _≤_, _<_}
+use Prim.Native.Nat.{ℕ, _≤_, _<_}
 use native.Mathlib.Omega.{arith}
 use mathlib.Core.Path.{_≡_, refl, sym, ap, _∙_, subst}
 use mathlib.Core.List.{List, [], _∷_}
-use mathlib.Core.Option.{Option, none, some}
-use mathlib.Core.Bool.{Bool, true, false, cond, _&&_, _||_, not}
-use lib.Dec.{ltb, leb, eqb}
+use mathlib.Core.Option.{none, some}
+use mathlib.Core.Bool.{Bool, true, false, cond, _&&_, not}
+use lib.Dec.{ltb, eqb}
 use lib.ListN.{length}
-use borrow.Author.Tests.{ltb-false, lt-ltb, le-ltb, ne-eqb, eq-eqb}
+use borrow.Author.Tests.{ltb-false, lt-ltb, le-ltb, ne-eqb}
 use Rattle.error.specs.declared.Refusal.{Refusal}
 use Rattle.error.specs.declared.Refusal.the-variants as refusal
-use Rattle.error.specs.declared.Outcome.{Outcome}
 use Rattle.error.specs.declared.Outcome.the-variants.{Ready, Nothing, Refused}
 use Rattle.error.specs.declared.Verdict.{Verdict}
 use Rattle.error.specs.declared.Verdict.the-variants as verdict
@@ -18,9 +17,9 @@ use Rattle.model.specs.Lists.{Bytes, joined}
 use Rattle.model.specs.Stream.{Entry, state, packet, End}
 use Rattle.model.specs.Slots.{Slots}
 use Rattle.model.specs.Stream as model
-use Rattle.model.specs.Answers.{Answer, refused, answered}
+use Rattle.model.specs.Answers.{Answer, answered}
 use Rattle.model.specs.Rules.{rules}
-use Rattle.model.specs.RulesKept.{Kept, Every, EntryKept}
+use Rattle.model.specs.RulesKept.{Every, EntryKept}
 use Rattle.model.proofs.RulesKept.{rules-say}
 use Rattle.model.proofs.Gate.{and-left, and-right, and-true}
 use Rattle.model.specs.Driving.{take, takeRefusal, takeAnswer, takeLoop, batch, headLength, segmentOf, takenFrom}
@@ -30,11 +29,11 @@ use Rattle.records.specs.Put.{put}
 use Rattle.records.specs.Seen.{Lent, seen, seenQueue, formed, formedReceiver, formedQueue}
 use Rattle.records.specs.Open.{storesTest}
 use Rattle.records.proofs.FormedQueue.{queue-said}
-use Rattle.taking.specs.Take.{Batched, Lends, takenStream, takenLent}
+use Rattle.taking.specs.Take.{Lends, takenStream, takenLent}
 use Rattle.taking.proofs.RulesTake.{rules-take}
 use Rattle.udx.specs.declared.step.Step.{Step}
 use Rattle.udx.specs.Agree as agree
-use Rattle.udx.specs.Agree.{laidOut, onRecords, refusedStep, Agrees, Answers}
+use Rattle.udx.specs.Agree.{laidOut, onRecords, refusedStep, Agrees}
 use Rattle.udx.specs.Refusals.{brokenRecords, verdictOf, takeVerdict}
 use Rattle.udx.specs.Take.{nothingStep, Sendable, Transmits, Hands}
 use Rattle.udx.proofs.RefusalLaws.{line, refusal-one, whyOf, is-refused, is-clear, acts-on, none-line}

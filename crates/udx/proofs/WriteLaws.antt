@@ -1,17 +1,16 @@
 -- A write on the records answers as the model's: a refused one because the lists of refusals are the same, the others piece by piece.
 -- Assumes nothing.
-use Prim.Native.Nat.{ℕ, zero, suc, _≤_, _<_}
+use Prim.Native.Nat.{ℕ}
 use native.Mathlib.Omega.{arith}
 use mathlib.Core.Path.{_≡_, refl, sym, ap, _∙_, subst}
 use mathlib.Core.List.{List, [], _∷_}
-use mathlib.Core.Option.{Option, none, some}
-use mathlib.Core.Bool.{Bool, true, false, cond, _&&_, _||_, not}
-use lib.Dec.{ltb, leb, eqb}
+use mathlib.Core.Option.{none}
+use mathlib.Core.Bool.{Bool, true, false, cond, _||_, not}
+use lib.Dec.{ltb, eqb}
 use lib.ListN.{length}
 use borrow.Author.Tests.{ltb-false, ne-eqb}
 use Rattle.error.specs.declared.Refusal.{Refusal}
 use Rattle.error.specs.declared.Refusal.the-variants as refusal
-use Rattle.error.specs.declared.Outcome.{Outcome}
 use Rattle.error.specs.declared.Outcome.the-variants.{Ready, Waiting, Refused}
 use Rattle.error.specs.declared.Verdict.{Verdict}
 use Rattle.error.specs.declared.Verdict.the-variants as verdict
@@ -28,7 +27,7 @@ use Rattle.records.specs.Open.{storesTest}
 use Rattle.rules.proofs.Seen.{ok-said}
 use Rattle.sending.specs.Write as sending
 use Rattle.udx.specs.declared.step.Step.{Step}
-use Rattle.udx.specs.Agree.{laidOut, onRecords, refusedStep, segmentOf, Agrees, Unchanged, Answers}
+use Rattle.udx.specs.Agree.{laidOut, onRecords, refusedStep, segmentOf, Agrees, Answers}
 use Rattle.udx.specs.Refusals.{brokenRecords, verdictOf, writeVerdict}
 use Rattle.udx.specs.Write.{outboxOf, outcomeOf, Sends}
 use Rattle.udx.proofs.RefusalLaws.{write-list, is-refused, is-clear, acts-on, whyOf, none-line, not-false, not-true}

@@ -1,6 +1,5 @@
 -- `udx::refusals::stores_differ` meets its contract: one length after the other.
 -- Assumes nothing.
-use native.Mathlib.Omega.{arith}
 use borrow.Author.Tests.{eq-eqb, ne-eqb}
 use Rattle.udx.proofs.refusals.stores_differ.Statement.{statement}
 use Rattle.udx.proofs.refusals.stores_differ.Tie as tie

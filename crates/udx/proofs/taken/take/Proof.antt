@@ -1,7 +1,6 @@
 -- `udx::taken::take` meets its contract: the verdict is the model's, and what follows it is its answer.
 -- Assumes nothing.
-use native.Mathlib.Omega.{arith}
-use mathlib.Core.Path.{_≡_, refl, sym, _∙_}
+use mathlib.Core.Path.{sym, _∙_}
 use borrow.Author.Needs.{needs}
 use Rattle.records.specs.Seen.{Lent}
 use Rattle.udx.specs.Agree.{lent}
