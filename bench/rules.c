@@ -55,7 +55,7 @@ int main(void) {
     report("empty", 0, 0, 0);
     report("1 stored, 1 held, 1 state", 1, 1, 1);
     report("8 stored, 4 held, 4 states", 8, 4, 4);
-    report("32 stored, none queued", 32, 0, 0);
+    report("32 stored and queued", 32, 0, 0);
     report("full: 32 stored, 31 held, 95 queued", 32, 31, 63);
     return 0;
 }
