@@ -1,4 +1,5 @@
 pub mod LookLaws
+pub mod ReadLaws
 pub mod RefusalLaws
 pub mod Resting
 pub mod TakeLaws

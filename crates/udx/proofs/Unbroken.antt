@@ -24,6 +24,7 @@ pub record Whole (s : Stream) (t : Totals) (l : Lent) : Type 0 where
   pub laid : laidOut s l ≡ true
   pub queue : QueueFormed (s .queue) (l .queue)
   pub kept : rules (seen s t l) ≡ true
+  pub ok : okStream s t (l .sent) (l .held) (l .queue) ≡ true
 
 neither : (a b : Bool) → (a || not b) ≡ false → (a ≡ false) × (b ≡ true)
 neither false true h = (refl, refl)
@@ -57,4 +58,5 @@ unbroken s t l len h =
       laid = rw stores laid;
       queue = queue-says (s .queue) (l .queue) (and-right (formedReceiver (s .receiver)) _ laid);
       kept = kept;
+      ok = ok;
     }

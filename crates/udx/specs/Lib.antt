@@ -1,5 +1,6 @@
 pub mod Agree
 pub mod Look
+pub mod Read
 pub mod Refusals
 pub mod Take
 pub mod Write

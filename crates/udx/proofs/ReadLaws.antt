@@ -1,0 +1,178 @@
+-- A read on the records answers as the model's: refused with 1, or what is held in order. Assumes nothing.
+use Prim.Native.Nat.{ℕ, zero, suc, _+_, _-_, _%_, _≤_, _<_}
+use native.Mathlib.Omega.{arith}
+use mathlib.Core.Path.{_≡_, refl, sym, ap, _∙_, subst}
+use mathlib.Core.List.{List, []}
+use mathlib.Core.Option.{none}
+use mathlib.Core.Bool.{Bool, true, false, cond, not}
+use lib.Dec.{ltb, leb, eqb}
+use lib.ListN.{length, getD}
+use borrow.Author.Tests.{ltb-true, ltb-false, leb-true}
+use Rattle.error.specs.declared.UdxError.{UdxError}
+use Rattle.error.specs.declared.UdxError.the-variants as error
+use Rattle.error.specs.declared.Refusal.the-variants as refusal
+use Rattle.error.specs.declared.Outcome.the-variants.{Refused}
+use Rattle.error.specs.declared.Verdict.the-variants as verdict
+use Rattle.model.specs.Lists.{Bytes}
+use Rattle.model.specs.Slots.{ceiling}
+use Rattle.model.specs.Stream.{End, withReceiver}
+use Rattle.model.specs.Answers.{Answer}
+use Rattle.model.specs.Rules.{heldRule, segmentsRange, rttRanges}
+use Rattle.model.specs.Receiving.{read, readRefusal, readAnswer, readNext, readOutcome}
+use Rattle.model.proofs.Gate.{and-left, and-right, and-true}
+use Rattle.records.specs.declared.Receiver.{Receiver}
+use Rattle.records.specs.declared.Stream.{Stream}
+use Rattle.records.specs.declared.Totals.{Totals}
+use Rattle.records.specs.Put.{put}
+use Rattle.records.specs.Words.{heldOf, isHeld}
+use Rattle.records.specs.Seen.{Lent, seen, formed, formedReceiver}
+use Rattle.records.specs.Open.{storesTest}
+use Rattle.rules.specs.Ok.{okStream, okReceiver, okSender, everyFrom, heldOk, clocksOk}
+use Rattle.receiving.specs.Reading.{HeldFit, Readable}
+use Rattle.receiving.proofs.LaidLaws.{laid-said, laid-says}
+use Rattle.udx.specs.declared.step.Step.{Step}
+use Rattle.udx.specs.Agree.{laidOut, onRecords, refusedStep, segmentOf, Agrees}
+use Rattle.udx.specs.Refusals.{brokenRecords, verdictOf}
+use Rattle.udx.specs.Read.{outcomeOf, readStream, readLent, ReadsOn, Gives}
+use Rattle.udx.proofs.RefusalLaws.{refusal-one, whyOf, is-refused, is-clear, acts-on}
+use Rattle.udx.proofs.Unbroken.{Whole, unbroken}
+
+-- held packets keep their rule
+
+by-order : (a n : ℕ) (P : Type 0) → a ≤ n → (a < n → P) → (a ≡ n → P) → P
+by-order a n P h less same = go (ltb a n) refl
+  where
+    go : (b : Bool) → ltb a n ≡ b → P
+    go true e = less (ltb-true a n e)
+    go false e = same (let z = ltb-false a n e in omega arith)
+
+at-every : (k a n : ℕ) (f : ℕ → Bool) → everyFrom k a f ≡ true → a ≤ n → n < a + k → f n ≡ true
+unfolding everyFrom
+at-every zero a n f h low high = absurd (omega arith)
+at-every (suc k) a n f h low high =
+    let later : a < n → f n ≡ true = λ z. at-every k (suc a) n f (and-right (f a) (everyFrom k (suc a) f) h) (omega arith) (omega arith) in
+    let now : a ≡ n → f n ≡ true = λ z. subst (λ (x : ℕ). f x ≡ true) z (and-left (f a) (everyFrom k (suc a) f) h) in
+    by-order a n (f n ≡ true) low later now
+
+rule-fit : (cursor slot n past offset : ℕ) → heldRule cursor slot n (past - 1) offset ≡ true → (past - 1 ≤ 1_380) × (offset ≤ past - 1)
+rule-fit cursor slot n past offset h =
+    let h₁ = and-right (eqb (n % ceiling) slot) _ h in
+    let h₂ = and-right (leb cursor n) _ h₁ in
+    let h₃ = and-right (ltb n (cursor + ceiling)) _ h₂ in
+    let h₄ = and-right (ltb n 4_294_967_295) _ h₃ in
+    (leb-true (past - 1) 1_380 (and-left (leb (past - 1) 1_380) _ h₄), leb-true offset (past - 1) (and-right (leb (past - 1) 1_380) _ h₄))
+
+fits : (r : Receiver) (held : List ℕ) → okReceiver r held ≡ true → HeldFit r held
+unfolding okReceiver
+fits r held h n low high is =
+    let c = r .«read_cursor» in
+    let p = heldOf (getD held (n % ceiling) 0) in
+    let h₁ = and-right (leb c (r .ack)) _ h in
+    let h₂ = and-right (leb (r .ack) (c + ceiling)) _ h₁ in
+    let h₃ = and-right (formedReceiver r) _ h₂ in
+    let one : cond (isHeld p n) (heldRule c (n % ceiling) n (p .past - 1) (p .offset)) true ≡ true = at-every (r .top - c) c n (heldOk c held) h₃ low (omega arith) in
+    let (a, b) = rule-fit c (n % ceiling) n (p .past) (p .offset) (rw is at one) in
+    record { short = a; inside = b }
+
+receiver-ok : (s : Stream) (t : Totals) (sent held queue : List ℕ) → okStream s t sent held queue ≡ true → okReceiver (s .receiver) held ≡ true
+unfolding okStream
+receiver-ok s t sent held queue h =
+    let h₁ = and-right (segmentsRange (s .ids .segments)) _ h in
+    let h₂ = and-right (rttRanges (s .timing .rtt)) _ h₁ in
+    let h₃ = and-right (clocksOk (s .clocks)) _ h₂ in
+    let h₄ = and-right (okSender (s .sender) t (s .clocks .last .0) sent) _ h₃ in
+    and-left (okReceiver (s .receiver) held) _ h₄
+
+-- the outcome
+
+outcome-is : (b : Bool) (e : End) → outcomeOf b (e .ending .error) ≡ readOutcome b e
+outcome-is true e = refl
+outcome-is false e = refl
+
+other : (b : Bool) (x : UdxError) → outcomeOf b x ≡ Refused refusal.BrokenRecords → ⊥
+other true x q = let z : _≡_ {A = ℕ} 0 1 = cc in omega arith
+other false error.None q = let z : _≡_ {A = ℕ} 0 1 = cc in omega arith
+other false error.ConnectionReset q = let z : _≡_ {A = ℕ} 0 1 = cc in omega arith
+other false error.UnexpectedEof q = let z : _≡_ {A = ℕ} 0 1 = cc in omega arith
+other false error.TimedOut q = let z : _≡_ {A = ℕ} 0 1 = cc in omega arith
+
+put-nothing : (buf : Bytes) → buf ≡ put buf 0 []
+unfolding put
+put-nothing buf = refl
+
+module _ (s : Stream) (t : Totals) (l : Lent) (buf : Bytes) (len : length (l .queue) ≡ 128) where
+  abbrev acts : End → Answer
+  acts e = readAnswer (readNext (length buf) (e .receiver)) e
+
+  list : cond (brokenRecords s t l) (verdict.Refused refusal.BrokenRecords) verdict.Clear ≡ verdictOf (whyOf readRefusal s t l)
+  unfolding readRefusal
+  list = refusal-one s t l verdict.Clear none len refl
+
+  pub read-refused : brokenRecords s t l ≡ true → Gives s t l buf (refusedStep s t refusal.BrokenRecords) l buf
+  unfolding read
+  read-refused h =
+      let v : verdict.Refused refusal.BrokenRecords ≡ verdictOf (whyOf readRefusal s t l) = rw h at list in
+      let e = is-refused (read (length buf)) readRefusal acts s t l refusal.BrokenRecords (λ e. refl) v in
+      record {
+        agrees = subst (λ (a : Answer). Agrees a (refusedStep s t refusal.BrokenRecords) l) (sym e) (record { outcome = refl; count = refl; segment = refl; end = refl });
+        stays = λ z. z;
+        changes-nothing = λ z. record { stream = refl; totals = refl; lent = refl };
+        bytes = put-nothing buf ∙ ap (λ (a : Answer). put buf 0 (a .bytes)) (sym e);
+      }
+
+  module _ (h : brokenRecords s t l ≡ false) where
+    whole : Whole s t l
+    whole = unbroken s t l len h
+
+    formed-is : formed s (l .queue) ≡ true
+    unfolding laidOut
+    formed-is = and-right (not (storesTest (l .outgoing) (l .incoming) (l .headers))) _ (whole .laid)
+
+    pub read-readable : Readable (s .receiver) (l .held) (l .incoming)
+    unfolding formed
+    read-readable =
+        record {
+          store = whole .incoming;
+          laid = laid-says (s .receiver) (and-left (formedReceiver (s .receiver)) _ formed-is);
+          packets = fits (s .receiver) (l .held) (receiver-ok s t (l .sent) (l .held) (l .queue) (whole .ok));
+        }
+
+    acting : onRecords (read (length buf)) s t l ≡ acts (seen s t l)
+    unfolding read
+    acting =
+        let v : verdict.Clear ≡ verdictOf (whyOf readRefusal s t l) = rw h at list in
+        let (laid, nothing) = is-clear readRefusal s t l v in
+        acts-on (read (length buf)) readRefusal acts s t l (λ e. refl) laid nothing
+
+    module _ (r : Step) (held′ : List ℕ) (buf′ : Bytes) (x : ReadsOn s t (l .held) (l .incoming) buf r held′ buf′) where
+      abbrev after : Lent
+      after = readLent held′ l
+
+      stays-laid : laidOut (readStream (x .answer .receiver) s) after ≡ true
+      unfolding laidOut formed
+      stays-laid =
+          and-true (and-left (not (storesTest (l .outgoing) (l .incoming) (l .headers))) _ (whole .laid))
+          (and-true (laid-said (x .answer .receiver) (x .has-read .laid)) (and-right (formedReceiver (s .receiver)) _ formed-is))
+
+      agreed : Agrees (acts (seen s t l)) r after
+      unfolding seen
+      agreed =
+          record {
+            outcome = x .outcome ∙ (ap (λ (b : Bool). outcomeOf b (s .ending .error)) (x .has-read .finished) ∙ outcome-is (readNext (length buf) (seen s t l .receiver) .ready) (seen s t l));
+            count = x .count ∙ x .has-read .count;
+            segment = ap segmentOf (x .segment);
+            end =
+                ap (λ (z : Stream). seen z (r .totals) after) (x .stream)
+                ∙ (ap (λ (z : Totals). seen (readStream (x .answer .receiver) s) z after) (x .totals)
+                ∙ ap (λ z. withReceiver z (seen s t l)) (x .has-read .seen));
+          }
+
+      pub read-gives : Gives s t l buf r after buf′
+      unfolding seen
+      read-gives =
+          record {
+            agrees = subst (λ (a : Answer). Agrees a r after) (sym acting) agreed;
+            stays = λ z. subst (λ (z : Stream). laidOut z after ≡ true) (sym (x .stream)) stays-laid;
+            changes-nothing = λ z. absurd (other (x .answer .finished) (s .ending .error) (sym (x .outcome) ∙ z));
+            bytes = x .has-read .copied ∙ ap (λ (a : Answer). put buf 0 (a .bytes)) (sym acting);
+          }

@@ -1,0 +1,36 @@
+-- `udx::reading::read` meets its contract: refusal 1, else what is held in order.
+-- Assumes nothing.
+use mathlib.Core.Path.{sym, _∙_}
+use borrow.Author.Needs.{needs}
+use Rattle.records.specs.Seen.{Lent}
+use Rattle.udx.specs.Agree.{lent}
+use Rattle.udx.proofs.ReadLaws.{read-refused, read-readable, read-gives}
+use Rattle.udx.proofs.reading.read.Statement.{statement}
+use Rattle.udx.proofs.reading.read.Tie as tie
+
+returns : tie.Need-returns
+returns c =
+    let a = c .before .before .before .before .before .before .before .before .args in
+    let l : Lent = lent (a .sent .now) (a .held .now) (a .queue .now) (a .outgoing .now) (a .incoming .now) (a .headers .now) in
+    let (is, len) = c .before .before .broken .ensures in
+    rw (c .refused .ensures) (read-refused (a .s) (a .t) l (a .buf .now) len (sym is ∙ c .before .if1 .taken))
+
+read-on-requires : tie.Need-read-on-requires
+read-on-requires c κs =
+    let a = c .before .before .before .before .before .before .before .before .before .args in
+    let l : Lent = lent (a .sent .now) (a .held .now) (a .queue .now) (a .outgoing .now) (a .incoming .now) (a .headers .now) in
+    let (is, len) = c .before .before .before .broken .ensures in
+    read-readable (a .s) (a .t) l (a .buf .now) len (sym is ∙ c .before .before .if1 .left)
+
+returns-2 : tie.Need-returns-2
+returns-2 c =
+    let x = c .before .before in
+    let a = c .before .before .before .before .before .before .before .before .before .before .before .before .args in
+    let l : Lent = lent (a .sent .now) (a .held .now) (a .queue .now) (a .outgoing .now) (a .incoming .now) (a .headers .now) in
+    let (is, len) = x .before .before .before .before .broken .ensures in
+    read-gives (a .s) (a .t) l (a .buf .now) len (sym is ∙ x .before .before .before .if1 .left) (x .read-on .result) _ _ (x .read-on .ensures)
+
+pub read-spec : {M : Type 1} → statement M
+read-spec =
+    tie.close
+    (tie.spec (λ c κs. search needs) (λ c κs. search needs) returns read-on-requires (λ c. search needs) returns-2)

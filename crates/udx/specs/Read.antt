@@ -1,0 +1,60 @@
+-- A read on the records. Assumes nothing.
+use Prim.Native.Nat.{ℕ}
+use mathlib.Core.Path.{_≡_}
+use mathlib.Core.List.{List}
+use mathlib.Core.Bool.{Bool, true, cond}
+use lib.ListN.{length}
+use Rattle.error.specs.Answers.{errorOr}
+use Rattle.error.specs.declared.UdxError.{UdxError}
+use Rattle.error.specs.declared.Refusal.the-variants.{BrokenRecords}
+use Rattle.error.specs.declared.Outcome.{Outcome}
+use Rattle.error.specs.declared.Outcome.the-variants.{Ready, Waiting, Refused}
+use Rattle.model.specs.Lists.{Bytes}
+use Rattle.model.specs.Receiving.{read}
+use Rattle.records.specs.declared.Receiver.{Receiver}
+use Rattle.records.specs.declared.Stream.{Stream}
+use Rattle.records.specs.declared.Totals.{Totals}
+use Rattle.records.specs.Put.{put}
+use Rattle.records.specs.Seen.{Lent}
+use Rattle.receiving.specs.declared.Read.{Read}
+use Rattle.receiving.specs.Reading.{HasRead}
+use Rattle.udx.specs.declared.step.Step.{Step}
+use Rattle.udx.specs.Agree.{laidOut, onRecords, Agrees, Unchanged}
+
+-- 01, call 6: "Ready only if a packet was finished, else the error, else waiting"
+abbrev pub outcomeOf : (finished : Bool) → UdxError → Outcome
+outcomeOf finished error = cond finished Ready (errorOr error Waiting)
+
+-- a stream with another receiver
+abbrev pub readStream : Receiver → Stream → Stream
+readStream r s =
+    record {
+      ids = s .ids;
+      sender = s .sender;
+      receiver = r;
+      queue = s .queue;
+      timing = s .timing;
+      ending = s .ending;
+      clocks = s .clocks;
+    }
+
+abbrev pub readLent : List ℕ → Lent → Lent
+readLent held l = record { sent = l .sent; held = held; queue = l .queue; outgoing = l .outgoing; incoming = l .incoming; headers = l .headers }
+
+-- it was read as `HasRead` says, and the step is made of what that left
+pub record ReadsOn (s : Stream) (t : Totals) (held : List ℕ) (incoming buf : Bytes) (r : Step) (held′ : List ℕ) (buf′ : Bytes) : Type 0 where
+  pub answer : Read
+  pub has-read : HasRead (s .receiver) held incoming buf answer held′ buf′
+  pub stream : r .stream ≡ readStream (answer .receiver) s
+  pub totals : r .totals ≡ t
+  pub outcome : r .outcome ≡ outcomeOf (answer .finished) (s .ending .error)
+  pub count : r .count ≡ answer .count
+  pub segment : r .segment ≡ 0
+
+-- a read answers as the model's, and its bytes stand at the front of the buffer, whose other bytes stay. Refusal 1 changes nothing;
+-- "a read with 14 to 16 keeps the bytes it put and its new place"
+pub record Gives (s : Stream) (t : Totals) (before : Lent) (buf : Bytes) (r : Step) (after : Lent) (buf′ : Bytes) : Type 0 where
+  pub agrees : Agrees (onRecords (read (length buf)) s t before) r after
+  pub stays : laidOut s before ≡ true → laidOut (r .stream) after ≡ true
+  pub changes-nothing : r .outcome ≡ Refused BrokenRecords → Unchanged s t before r after
+  pub bytes : buf′ ≡ put buf 0 ((onRecords (read (length buf)) s t before) .bytes)
