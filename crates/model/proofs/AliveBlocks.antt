@@ -63,7 +63,7 @@ module _ (clock n : ℕ) (e : End) (l : length (e .sender .outgoing) ≡ ceiling
 
 -- a run of numbers
 
-outside : (clock k n : ℕ) (e : End) → length (e .sender .outgoing) ≡ ceiling → (m : ℕ) → (n ≤ m → m < n + k → ⊥)
+pub outside : (clock k n : ℕ) (e : End) → length (e .sender .outgoing) ≡ ceiling → (m : ℕ) → (n ≤ m → m < n + k → ⊥)
     → get ((ackNumbers clock k n e) .sender .outgoing) m ≡ get (e .sender .outgoing) m
 unfolding ackNumbers
 outside clock zero n e l m out = refl

@@ -1,0 +1,3 @@
+pub mod AckOne
+pub mod Clipped
+pub mod AckRun
