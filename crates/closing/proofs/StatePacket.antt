@@ -3,8 +3,8 @@
 -- the ending replaced first `terminate` (`terminate-seen`). Assumes nothing.
 use Prim.Native.Nat.{ℕ, _+_, _*_, _<_, _≤_}
 use native.Mathlib.Omega.{arith}
-use mathlib.Core.Path.{_≡_, refl, ap, ap₂, sym, _∙_}
-use mathlib.Core.List.{List, [], _++_, append-nil}
+use mathlib.Core.Path.{_≡_, refl, ap, sym, _∙_}
+use mathlib.Core.List.{List, append-nil}
 use mathlib.Core.Bool.{true}
 use lib.ListN.{length, set, length-set}
 use Rattle.error.specs.declared.UdxError.{UdxError}
@@ -12,7 +12,7 @@ use Rattle.packet.specs.Header.{headerBytes}
 use Rattle.packet.proofs.HeaderLaws.{header-length}
 use Rattle.model.specs.Lists.{Bytes}
 use Rattle.model.specs.Stream as model
-use Rattle.model.specs.Sending.{isSet, stateType, pushed, countState, sendStatePacket, failed, terminate}
+use Rattle.model.specs.Sending.{pushed, countState, sendStatePacket, failed, terminate}
 use Rattle.records.specs.declared.Ending.{Ending}
 use Rattle.records.specs.declared.Queue.{Queue}
 use Rattle.records.specs.declared.Stream.{Stream}

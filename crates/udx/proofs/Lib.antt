@@ -1,3 +1,4 @@
+pub mod CloseLaws
 pub mod LookLaws
 pub mod ReadLaws
 pub mod RefusalLaws

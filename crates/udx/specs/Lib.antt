@@ -1,4 +1,5 @@
 pub mod Agree
+pub mod Close
 pub mod Look
 pub mod Read
 pub mod Refusals

@@ -42,3 +42,10 @@ writeVerdict broken s empty =
 -- refusals 1 and 2 of a take
 unfoldable pub takeVerdict : (broken : Bool) → (room : ℕ) → Verdict
 takeVerdict broken room = cond broken (Refused refusal.BrokenRecords) (cond (ltb room 14_000) (Refused refusal.ShortBuffer) Clear)
+
+-- refusals 1, 5, 6 and 13 of a close
+unfoldable pub closeVerdict : (broken : Bool) → Stream → Verdict
+closeVerdict broken s =
+    cond broken (Refused refusal.BrokenRecords)
+    (cond (s .ending .ended) (Refused refusal.AfterDone)
+    (cond (ltb 0 (s .queue .left)) (Refused refusal.BatchesLeft) (cond (leb 63 (s .queue .states)) (Refused refusal.StateQueueFull) Clear)))

@@ -1,5 +1,6 @@
 // The calls of a stream. Each takes the records as they are, tests the refusals of 01 in their order, and answers with the stream and the
 // totals after it. specs/Agree.antt says how an answer on the records is the model's.
+mod closed;
 mod looking;
 mod reading;
 mod refusals;
@@ -7,6 +8,7 @@ mod step;
 mod taken;
 mod writing;
 
+pub use closed::close;
 pub use looking::look;
 pub use reading::read;
 pub use step::Step;
