@@ -1,6 +1,7 @@
 pub mod BatchCut
 pub mod LeftWords
 pub mod LookNext
+pub mod NextBatch
 pub mod RulesTake
 pub mod SameSize
 pub mod TakeModel

@@ -1,5 +1,6 @@
 -- What the functions of this crate need is what 01's rules give: records whose end keeps the rules, laid out as they should be, with
--- stores of the right lengths, are `Kept`, and a batch of them can be taken where the buffer has 14,000 bytes. Assumes nothing.
+-- stores of the right lengths, are `Kept`, and with an entry left to take
+-- the next batch can be taken where the buffer has 14,000 bytes. Assumes nothing.
 use Prim.Native.Nat.{ℕ, zero, suc, _%_, _^_, _≤_, _<_}
 use native.Mathlib.Omega.{arith}
 use mathlib.Core.Path.{_≡_, refl, _∙_}
@@ -22,7 +23,11 @@ use Rattle.records.specs.Seen.{sentIn, packetOf, Lent, seen}
 use Rattle.records.proofs.Cut.{cut-length}
 use Rattle.records.proofs.SeenOutgoing.{get-outgoing}
 use Rattle.records.proofs.FormedQueue.{QueueFormed}
-use Rattle.taking.specs.Take.{Stored, Kept, Batched, Takeable}
+use Rattle.taking.specs.Take.{Lends, Stored, Kept, Sendable}
+
+-- a stream has its own numbers and words
+pub own-lends : (st : Stream) (l : Lent) → Lends st l (st .queue) (st .sender) (l .sent) (l .queue) (l .outgoing) (l .headers)
+own-lends st l = record { counts = refl; sender = refl; packets = refl; words = refl; store = refl; heads = refl }
 
 -- the parts of the rules that are read here
 pub record Read (e : model.End) : Type 0 where
@@ -86,16 +91,13 @@ module _ (st : Stream) (t : Totals) (l : Lent) (kept : rules (seen st t l) ≡ t
     pub rules-kept : Kept (st .queue) (st .sender) (l .sent) (l .queue) (l .outgoing) (l .headers)
     rules-kept = record { formed = formed; stored = stored; slots = slots; places = places }
 
-    -- k is what `batch` answers
-    pub rules-take : (k : ℕ) (buf : Bytes) → Batched (st .queue) (st .ids .segments) (l .queue) k → 0 < st .queue .left → 14_000 ≤ length buf
-        → Takeable (st .queue) (st .sender) k (st .clocks .drive .0) (l .sent) (l .queue) (l .outgoing) (l .headers) buf
+    pub rules-take : (buf : Bytes) → 0 < st .queue .left → 14_000 ≤ length buf
+        → Sendable (st .queue) (st .sender) (st .ids .segments) (st .clocks .drive .0) (l .sent) (l .queue) (l .outgoing) (l .headers) buf
     unfolding seen
-    rules-take k buf b here room =
+    rules-take buf here room =
         let r = rules-read (seen st t l) kept in
         let c = st .clocks in
         let n = st .ids .segments in
-        let most = leb-true n 10 (and-right (leb 1 n) _ (r .segments)) in
         let drive = leb-true (c .drive .0) (c .last .0) (and-left (leb (c .drive .0) (c .last .0)) _ (r .clocks)) in
         let last = ltb-true (c .last .0) (2 ^ 60) (and-right (leb (c .drive .0) (c .last .0)) _ (r .clocks)) in
-        let m = b .most in
-        record { kept = rules-kept; some = here; entries = b .left; most = omega arith; drive = omega arith; room = room }
+        record { kept = rules-kept; some = here; most = leb-true n 10 (and-right (leb 1 n) _ (r .segments)); drive = omega arith; room = room }

@@ -26,6 +26,7 @@ use Rattle.records.proofs.SeenOutgoing.{withSent}
 use Rattle.records.proofs.SeenQueue.{stateWords}
 use Rattle.records.proofs.FormedQueue.{QueueFormed}
 use Rattle.rtt.specs.Estimate.{nanos}
+use Rattle.taking.specs.declared.Handed.{Handed}
 use Rattle.taking.specs.declared.Progress.{Progress}
 use Rattle.taking.specs.declared.Next.{Next}
 
@@ -199,6 +200,32 @@ pub record Takes (q : Queue) (s : Sender) (k clock : ℕ) (sent queue : List ℕ
 pub record TakesQueue (q : Queue) (k place : ℕ) (r : Queue) : Type 0 where
   pub queue : r ≡ takenQueue q k place
   pub formed : (queue : List ℕ) → QueueFormed q queue → place ≡ q .gone + stateWords (take k (entryWords q queue)) → QueueFormed r queue
+
+-- next_batch
+
+-- what taking the next batch needs: 01's rules, refusal 2 and an entry left to take
+pub record Sendable (q : Queue) (s : Sender) (segments clock : ℕ) (sent queue : List ℕ) (outgoing headers buf : Bytes) : Type 0 where
+  pub kept : Kept q s sent queue outgoing headers
+  pub some : 1 ≤ q .left
+  pub most : segments ≤ 10
+  pub drive : clock < 2 ^ 60
+  pub room : 14_000 ≤ length buf
+
+-- 01, call 5: "with segment size unless it has one entry"; 0 where a batch has none
+abbrev pub segmentSize : (entries length : ℕ) → ℕ
+segmentSize entries length = cond (eqb entries 1) 0 length
+
+-- the next batch of an end e, which is e′ then: what is put, its count, its segment size and the end are the model's
+pub record HandedOut (e e′ : model.End) (buf : Bytes) (count segment : ℕ) (buf′ : Bytes) : Type 0 where
+  pub took : Took (batch e) e e′ buf count buf′
+  pub size : segment ≡ segmentSize (batch e) (headLength (e .queue .entries))
+
+-- 01, call 5: "the next batch .., with segment size unless it has one entry"; the queue stays laid out as it was
+pub record HandsOut (q : Queue) (s : Sender) (segments clock : ℕ) (sent queue : List ℕ) (outgoing headers buf : Bytes) (r : Handed)
+    (sent′ : List ℕ) (buf′ : Bytes) : Type 0 where
+  pub hands : (st : Stream) (t : Totals) (l : Lent) → Lends st l q s sent queue outgoing headers → st .ids .segments ≡ segments → st .clocks .drive .0 ≡ clock
+      → HandedOut (seen st t l) (seen (takenStream (r .queue) st) t (takenLent sent′ l)) buf (r .count) (r .segment) buf′
+  pub formed : QueueFormed (r .queue) queue
 
 -- look
 

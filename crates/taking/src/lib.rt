@@ -23,6 +23,9 @@ ghost use Rattle.taking.specs.Take.{
   Takeable,
   Takes,
   TakesQueue,
+  segmentSize,
+  Sendable,
+  HandsOut,
   Finds,
   Shows,
 };
@@ -79,7 +82,7 @@ fn least(a: u32, b: u32) -> u32
 }
 
 // How many entries the next batch has: those of the first one's length in a row, at most the ceiling and at most what is left.
-pub fn batch(q: Queue, segments: u8, queue: &[u64; 128]) -> u32
+fn batch(q: Queue, segments: u8, queue: &[u64; 128]) -> u32
     requires { ⌜ (q .left ≤ q .count) × (q .count ≤ 128) × (1 ≤ q .left) ⌝ }
     ensures { λ r. ⌜ Batched q segments (now (queue .entry)) r ⌝ }
 {
@@ -97,7 +100,7 @@ pub fn batch(q: Queue, segments: u8, queue: &[u64; 128]) -> u32
 }
 
 // The length of the first entry left to take: the segment size of its batch.
-pub fn head_length(q: Queue, queue: &[u64; 128]) -> u32
+fn head_length(q: Queue, queue: &[u64; 128]) -> u32
     requires { ⌜ (q .left ≤ q .count) × (q .count ≤ 128) × (1 ≤ q .left) ⌝ }
     ensures { λ r. ⌜ Heads q (now (queue .entry)) r ⌝ }
 {
@@ -108,11 +111,11 @@ pub fn head_length(q: Queue, queue: &[u64; 128]) -> u32
 // its bytes and marks
 
 // How far a batch is put.
-pub struct Progress {
+struct Progress {
     // Bytes put.
-    pub at: usize,
+    at: usize,
     // The place of the next state packet in the header store.
-    pub place: u32,
+    place: u32,
 }
 
 // Packet n is stored, with p in its slot.
@@ -204,7 +207,7 @@ fn transmit(
 
 // The first k entries left to take, one after another: after i of them p.at is past their bytes, and each packet has a mark for each of
 // its entries. The rest of the buffer stays.
-pub fn to_transmit(
+fn to_transmit(
     q: Queue,
     s: Sender,
     k: u32,
@@ -235,7 +238,7 @@ pub fn to_transmit(
 
 // The queue without its first k entries; `place` is that of the next state packet. With the last entry taken it is empty, and words and
 // places are used from the start again.
-pub fn taken_queue(q: Queue, k: u32, place: u32) -> Queue
+fn taken_queue(q: Queue, k: u32, place: u32) -> Queue
     requires { ⌜ k ≤ q .left ⌝ }
     ensures { λ r. ⌜ TakesQueue q k place r ⌝ }
 {
@@ -253,6 +256,50 @@ pub fn taken_queue(q: Queue, k: u32, place: u32) -> Queue
         left: left,
         states: q.states,
         gone: place,
+    }
+}
+
+// A batch that is handed out.
+pub struct Handed {
+    // The queue without it.
+    pub queue: Queue,
+    // Its bytes, which stand at the front of the buffer.
+    pub count: usize,
+    // Its segment size, 0 where it has none.
+    pub segment: usize,
+}
+
+// "with segment size unless it has one entry"
+fn segment(entries: u32, length: u32) -> usize
+    ensures { λ r. ⌜ r ≡ segmentSize entries length ⌝ }
+{
+    if entries == 1 { 0 } else { length as usize }
+}
+
+// The next batch (poll_transmit): its bytes with their marks, its segment size, and the queue without it.
+pub fn next_batch(
+    q: Queue,
+    s: Sender,
+    segments: u8,
+    drive: Nanos,
+    sent: &mut [u64; 64],
+    queue: &[u64; 128],
+    outgoing: &[u8],
+    headers: &[u8],
+    buf: &mut [u8],
+) -> Handed
+    requires { ⌜ Sendable q s segments (drive .0) (now sent) (now queue) (now outgoing) (now headers) (now buf) ⌝ }
+    ensures { λ r. ⌜ HandsOut q s segments (drive .0) (now (sent .entry)) (now (queue .entry)) (now (outgoing .entry)) (now (headers .entry)) (now (buf .entry)) r (now (sent .exit)) (now (buf .exit)) ⌝ }
+{
+    let k = batch(q, segments, queue);
+    let length = head_length(q, queue);
+    let p = to_transmit(q, s, k, drive, sent, queue, outgoing, headers, buf);
+    let rest = taken_queue(q, k, p.place);
+    let size = segment(k, length);
+    Handed {
+        queue: rest,
+        count: p.at,
+        segment: size,
     }
 }
 

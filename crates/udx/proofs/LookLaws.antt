@@ -13,11 +13,11 @@ use Rattle.records.specs.Seen.{Lent, seen, formed}
 use Rattle.records.specs.Open.{storesTest}
 use Rattle.rules.proofs.Seen.{ok-seen}
 use Rattle.taking.specs.Take.{Kept, Shows}
-use Rattle.taking.proofs.RulesTake.{rules-kept}
+use Rattle.taking.proofs.RulesTake.{own-lends, rules-kept}
 use Rattle.udx.specs.Agree.{laidOut}
 use Rattle.udx.specs.Look.{shownOf}
 use Rattle.udx.specs.Refusals.{brokenRecords}
-use Rattle.udx.proofs.Unbroken.{unbroken}
+use Rattle.udx.proofs.Unbroken.{unbroken, still-laid}
 
 nothing : (differ laid kept left : Bool) (shown : Bytes) → (differ || not (laid && kept)) ≡ true → [] ≡ cond (not differ && laid) (cond (kept && left) shown []) []
 nothing true laid kept left shown h = refl
@@ -41,4 +41,4 @@ module _ (s : Stream) (t : Totals) (l : Lent) (len : length (l .queue) ≡ 128) 
   unfolding shownOf
   look-shows shown h x =
       let w = unbroken s t l len h in
-      rw (w .laid) (x .look s t l (record { counts = refl; sender = refl; packets = refl; words = refl; store = refl; heads = refl }) (w .kept))
+      rw (still-laid s l (w .stores) (w .receiver) (w .words)) (x .look s t l (own-lends s l) (w .kept))

@@ -2,9 +2,9 @@
 use Prim.Native.Nat.{ℕ, zero, suc, _+_, _-_, _%_, _≤_, _<_}
 use native.Mathlib.Omega.{arith}
 use mathlib.Core.Path.{_≡_, refl, sym, ap, _∙_, subst}
-use mathlib.Core.List.{List, []}
+use mathlib.Core.List.{List}
 use mathlib.Core.Option.{none}
-use mathlib.Core.Bool.{Bool, true, false, cond, not}
+use mathlib.Core.Bool.{Bool, true, false, cond}
 use lib.Dec.{ltb, leb, eqb}
 use lib.ListN.{length, getD}
 use borrow.Author.Tests.{ltb-true, ltb-false, leb-true}
@@ -19,23 +19,22 @@ use Rattle.model.specs.Stream.{End, withReceiver}
 use Rattle.model.specs.Answers.{Answer}
 use Rattle.model.specs.Rules.{heldRule, segmentsRange, rttRanges}
 use Rattle.model.specs.Receiving.{read, readRefusal, readAnswer, readNext, readOutcome}
-use Rattle.model.proofs.Gate.{and-left, and-right, and-true}
+use Rattle.model.proofs.Gate.{and-left, and-right}
 use Rattle.records.specs.declared.Receiver.{Receiver}
 use Rattle.records.specs.declared.Stream.{Stream}
 use Rattle.records.specs.declared.Totals.{Totals}
 use Rattle.records.specs.Put.{put}
 use Rattle.records.specs.Words.{heldOf, isHeld}
-use Rattle.records.specs.Seen.{Lent, seen, formed, formedReceiver}
-use Rattle.records.specs.Open.{storesTest}
+use Rattle.records.specs.Seen.{Lent, seen, formedReceiver}
 use Rattle.rules.specs.Ok.{okStream, okReceiver, okSender, everyFrom, heldOk, clocksOk}
-use Rattle.receiving.specs.Reading.{HeldFit, Readable}
+use Rattle.receiving.specs.declared.Read.{Read}
+use Rattle.receiving.specs.Reading.{HeldFit, Readable, HasRead}
 use Rattle.receiving.proofs.LaidLaws.{laid-said, laid-says}
-use Rattle.udx.specs.declared.step.Step.{Step}
-use Rattle.udx.specs.Agree.{laidOut, onRecords, refusedStep, segmentOf, Agrees}
+use Rattle.udx.specs.Agree.{onRecords, refusedStep, Agrees}
 use Rattle.udx.specs.Refusals.{brokenRecords, verdictOf}
-use Rattle.udx.specs.Read.{outcomeOf, readStream, readLent, ReadsOn, Gives}
-use Rattle.udx.proofs.RefusalLaws.{refusal-one, whyOf, is-refused, is-clear, acts-on}
-use Rattle.udx.proofs.Unbroken.{Whole, unbroken}
+use Rattle.udx.specs.Read.{outcomeOf, readStream, readLent, readStep, Gives}
+use Rattle.udx.proofs.RefusalLaws.{refusal-one, whyOf, is-refused, is-clear, acts-on, refused-agrees, puts-nothing}
+use Rattle.udx.proofs.Unbroken.{Whole, unbroken, still-laid}
 
 -- held packets keep their rule
 
@@ -96,10 +95,6 @@ other false error.ConnectionReset q = let z : _≡_ {A = ℕ} 0 1 = cc in omega 
 other false error.UnexpectedEof q = let z : _≡_ {A = ℕ} 0 1 = cc in omega arith
 other false error.TimedOut q = let z : _≡_ {A = ℕ} 0 1 = cc in omega arith
 
-put-nothing : (buf : Bytes) → buf ≡ put buf 0 []
-unfolding put
-put-nothing buf = refl
-
 module _ (s : Stream) (t : Totals) (l : Lent) (buf : Bytes) (len : length (l .queue) ≡ 128) where
   abbrev acts : End → Answer
   acts e = readAnswer (readNext (length buf) (e .receiver)) e
@@ -114,26 +109,21 @@ module _ (s : Stream) (t : Totals) (l : Lent) (buf : Bytes) (len : length (l .qu
       let v : verdict.Refused refusal.BrokenRecords ≡ verdictOf (whyOf readRefusal s t l) = rw h at list in
       let e = is-refused (read (length buf)) readRefusal acts s t l refusal.BrokenRecords (λ e. refl) v in
       record {
-        agrees = subst (λ (a : Answer). Agrees a (refusedStep s t refusal.BrokenRecords) l) (sym e) (record { outcome = refl; count = refl; segment = refl; end = refl });
+        agrees = refused-agrees (read (length buf)) s t l refusal.BrokenRecords e;
         stays = λ z. z;
         changes-nothing = λ z. record { stream = refl; totals = refl; lent = refl };
-        bytes = put-nothing buf ∙ ap (λ (a : Answer). put buf 0 (a .bytes)) (sym e);
+        bytes = puts-nothing buf (onRecords (read (length buf)) s t l) (ap (λ (a : Answer). a .bytes) e);
       }
 
   module _ (h : brokenRecords s t l ≡ false) where
     whole : Whole s t l
     whole = unbroken s t l len h
 
-    formed-is : formed s (l .queue) ≡ true
-    unfolding laidOut
-    formed-is = and-right (not (storesTest (l .outgoing) (l .incoming) (l .headers))) _ (whole .laid)
-
     pub read-readable : Readable (s .receiver) (l .held) (l .incoming)
-    unfolding formed
     read-readable =
         record {
           store = whole .incoming;
-          laid = laid-says (s .receiver) (and-left (formedReceiver (s .receiver)) _ formed-is);
+          laid = laid-says (s .receiver) (whole .receiver);
           packets = fits (s .receiver) (l .held) (receiver-ok s t (l .sent) (l .held) (l .queue) (whole .ok));
         }
 
@@ -144,35 +134,26 @@ module _ (s : Stream) (t : Totals) (l : Lent) (buf : Bytes) (len : length (l .qu
         let (laid, nothing) = is-clear readRefusal s t l v in
         acts-on (read (length buf)) readRefusal acts s t l (λ e. refl) laid nothing
 
-    module _ (r : Step) (held′ : List ℕ) (buf′ : Bytes) (x : ReadsOn s t (l .held) (l .incoming) buf r held′ buf′) where
+    module _ (a : Read) (held′ : List ℕ) (buf′ : Bytes) (x : HasRead (s .receiver) (l .held) (l .incoming) buf a held′ buf′) where
       abbrev after : Lent
       after = readLent held′ l
 
-      stays-laid : laidOut (readStream (x .answer .receiver) s) after ≡ true
-      unfolding laidOut formed
-      stays-laid =
-          and-true (and-left (not (storesTest (l .outgoing) (l .incoming) (l .headers))) _ (whole .laid))
-          (and-true (laid-said (x .answer .receiver) (x .has-read .laid)) (and-right (formedReceiver (s .receiver)) _ formed-is))
-
-      agreed : Agrees (acts (seen s t l)) r after
+      agreed : Agrees (acts (seen s t l)) (readStep s t a) after
       unfolding seen
       agreed =
           record {
-            outcome = x .outcome ∙ (ap (λ (b : Bool). outcomeOf b (s .ending .error)) (x .has-read .finished) ∙ outcome-is (readNext (length buf) (seen s t l .receiver) .ready) (seen s t l));
-            count = x .count ∙ x .has-read .count;
-            segment = ap segmentOf (x .segment);
-            end =
-                ap (λ (z : Stream). seen z (r .totals) after) (x .stream)
-                ∙ (ap (λ (z : Totals). seen (readStream (x .answer .receiver) s) z after) (x .totals)
-                ∙ ap (λ z. withReceiver z (seen s t l)) (x .has-read .seen));
+            outcome = ap (λ (b : Bool). outcomeOf b (s .ending .error)) (x .finished) ∙ outcome-is (readNext (length buf) (seen s t l .receiver) .ready) (seen s t l);
+            count = x .count;
+            segment = refl;
+            end = ap (λ z. withReceiver z (seen s t l)) (x .seen);
           }
 
-      pub read-gives : Gives s t l buf r after buf′
+      pub read-gives : Gives s t l buf (readStep s t a) after buf′
       unfolding seen
       read-gives =
           record {
-            agrees = subst (λ (a : Answer). Agrees a r after) (sym acting) agreed;
-            stays = λ z. subst (λ (z : Stream). laidOut z after ≡ true) (sym (x .stream)) stays-laid;
-            changes-nothing = λ z. absurd (other (x .answer .finished) (s .ending .error) (sym (x .outcome) ∙ z));
-            bytes = x .has-read .copied ∙ ap (λ (a : Answer). put buf 0 (a .bytes)) (sym acting);
+            agrees = subst (λ (z : Answer). Agrees z (readStep s t a) after) (sym acting) agreed;
+            stays = λ z. still-laid (readStream (a .receiver) s) after (whole .stores) (laid-said (a .receiver) (x .laid)) (whole .words);
+            changes-nothing = λ z. absurd (other (a .finished) (s .ending .error) z);
+            bytes = x .copied ∙ ap (λ (z : Answer). put buf 0 (z .bytes)) (sym acting);
           }

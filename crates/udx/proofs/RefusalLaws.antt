@@ -2,7 +2,8 @@
 -- same numbers. And what a verdict says of the model's answer. Assumes nothing.
 use Prim.Native.Nat.{ℕ}
 use native.Mathlib.Omega.{arith}
-use mathlib.Core.Path.{_≡_, refl, sym, ap}
+use mathlib.Core.Path.{_≡_, refl, sym, ap, subst}
+use mathlib.Core.List.{[]}
 use mathlib.Core.Option.{Option, none, some}
 use mathlib.Core.Bool.{Bool, true, false, cond, _&&_, _||_, not}
 use lib.Dec.{ltb, leb}
@@ -20,11 +21,12 @@ use Rattle.model.specs.Lists.{Bytes, isEmpty}
 use Rattle.model.specs.Sending.{isReset, isEof, isTimedOut, writeRefusal}
 use Rattle.records.specs.declared.Stream.{Stream}
 use Rattle.records.specs.declared.Totals.{Totals}
+use Rattle.records.specs.Put.{put}
 use Rattle.records.specs.Seen.{Lent, seen, seenQueue, formed}
 use Rattle.records.specs.Open.{storesTest}
 use Rattle.rules.specs.Ok.{okStream}
 use Rattle.rules.proofs.Seen.{ok-seen}
-use Rattle.udx.specs.Agree.{laidOut, onRecords}
+use Rattle.udx.specs.Agree.{laidOut, onRecords, refusedStep, Agrees, Answers}
 use Rattle.udx.specs.Refusals.{brokenRecords, verdictOf, errorVerdict, writeVerdict}
 
 -- one line of a list
@@ -126,15 +128,28 @@ write-list s t l bytes len =
     (line (ltb 0 (s .queue .left)) refusal.BatchesLeft _ _
     (error-lines (s .ending .error) _ _ (line (not empty && leb 4_294_967_295 (s .sender .seq)) refusal.SeqExhausted Clear none refl)))
 
--- a list that says nothing
-pub none-line : (b : Bool) (why : Refusal) (o : Option Refusal) → cond b (some why) o ≡ none → (b ≡ false) × (o ≡ none)
-none-line true why o h = let z : _≡_ {A = ℕ} 0 1 = cc in absurd (omega arith)
-none-line false why o h = (refl, h)
+-- a clear verdict leaves each of its lines out
+pub clear-line : (b : Bool) (why : Refusal) (v : Verdict) → cond b (Refused why) v ≡ Clear → (b ≡ false) × (v ≡ Clear)
+clear-line true why v h = let z : _≡_ {A = ℕ} 0 1 = cc in absurd (omega arith)
+clear-line false why v h = (refl, h)
 
-pub not-false : (b : Bool) → not b ≡ false → b ≡ true
-not-false true h = refl
-not-false false h = sym h
+-- a refused call
 
-pub not-true : (b : Bool) → not b ≡ true → b ≡ false
-not-true true h = sym h
-not-true false h = refl
+pub refused-agrees : (call : End → Answer) (s : Stream) (t : Totals) (l : Lent) (why : Refusal) → onRecords call s t l ≡ refused why (seen s t l)
+    → Agrees (onRecords call s t l) (refusedStep s t why) l
+refused-agrees call s t l why e =
+    subst (λ (a : Answer). Agrees a (refusedStep s t why) l) (sym e) (record { outcome = refl; count = refl; segment = refl; end = refl })
+
+pub refused-answers : (call : End → Answer) (s : Stream) (t : Totals) (l : Lent) (why : Refusal) → onRecords call s t l ≡ refused why (seen s t l)
+    → Answers call s t l (refusedStep s t why) l
+refused-answers call s t l why e =
+    record {
+      agrees = refused-agrees call s t l why e;
+      stays = λ h. h;
+      changes-nothing = λ why′ z. record { stream = refl; totals = refl; lent = refl };
+    }
+
+-- an answer without bytes leaves the buffer
+pub puts-nothing : (buf : Bytes) (a : Answer) → a .bytes ≡ [] → buf ≡ put buf 0 (a .bytes)
+unfolding put
+puts-nothing buf a e = rw e refl

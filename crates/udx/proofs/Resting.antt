@@ -4,7 +4,7 @@ use Prim.Native.Nat.{ℕ, zero, suc, _+_, _-_, _*_, _%_, _≤_, _<_}
 use native.Mathlib.Omega.{arith}
 use mathlib.Core.Path.{_≡_, refl, sym, _∙_, subst}
 use mathlib.Core.List.{List, [], _∷_}
-use mathlib.Core.Bool.{Bool, true, false, cond, _||_, not}
+use mathlib.Core.Bool.{Bool, true, false, cond}
 use lib.Dec.{eqb}
 use lib.ListN.{length}
 use borrow.Author.Tests.{eqb-true}
@@ -17,15 +17,13 @@ use Rattle.model.proofs.RulesKept.{rules-say, sum-most, distinct-few}
 use Rattle.records.specs.declared.Stream.{Stream}
 use Rattle.records.specs.declared.Totals.{Totals}
 use Rattle.records.specs.Words.{isStored}
-use Rattle.records.specs.Seen.{Lent, sentIn, outgoingSlotAt, seen, seenOutgoing, seenQueue, entryWords, formed, formedReceiver}
-use Rattle.records.specs.Open.{storesTest}
+use Rattle.records.specs.Seen.{Lent, sentIn, outgoingSlotAt, seen, seenOutgoing, seenQueue, entryWords}
 use Rattle.records.proofs.Table.{table-length}
 use Rattle.records.proofs.SeenQueue.{entries-length, rest-length}
-use Rattle.records.proofs.FormedQueue.{queue-says}
 use Rattle.rules.specs.Ok.{okStream, okSender, sumFrom, packetsAt, clocksOk, senderNumbersOk, everyFrom, storedOk, sumsOk, inflightAt}
-use Rattle.rules.proofs.Seen.{ok-says}
 use Rattle.sending.specs.Write.{Ready}
 use Rattle.udx.specs.Write.{outboxOf}
+use Rattle.udx.proofs.Unbroken.{Whole}
 
 -- the number of stored packets is at most that of numbers
 
@@ -47,10 +45,6 @@ kinds [] = refl
 kinds (state b ∷ q) = let h = kinds q in omega arith
 kinds (packet n l ∷ q) = let h = kinds q in omega arith
 
-length-of : (a b c : Bool) → (not a || (b || c)) ≡ false → a ≡ true
-length-of true b c h = refl
-length-of false b c h = sym h
-
 waiting-most : (w : Bool) (n : ℕ) → n ≤ 1_400 → cond w 0 n ≤ 1_400
 waiting-most true n h = omega arith
 waiting-most false n h = h
@@ -68,13 +62,13 @@ near : (a seq : ℕ) (ns : List ℕ) → a ≤ seq → Every (λ n. (a ≤ n) ×
 near a seq [] h e = tt
 near a seq (n ∷ ns) h e = let (x, y) = e .0 in ((x, omega arith), near a seq ns h (e .1))
 
-module _ (s : Stream) (t : Totals) (l : Lent) (len : length (l .queue) ≡ 128) (kept : okStream s t (l .sent) (l .held) (l .queue) ≡ true) where
+module _ (s : Stream) (t : Totals) (l : Lent) (len : length (l .queue) ≡ 128) (whole : Whole s t l) where
   packets-are : t .«inflight_packets» ≤ s .sender .seq - s .sender .«remote_acked»
   unfolding okStream okSender
   packets-are =
       let n = s .sender .«remote_acked» in
       let k = s .sender .seq - n in
-      let rest₁ = and-right (segmentsRange (s .ids .segments)) _ kept in
+      let rest₁ = and-right (segmentsRange (s .ids .segments)) _ (whole .ok) in
       let rest₂ = and-right (rttRanges (s .timing .rtt)) _ rest₁ in
       let rest₃ = and-right (clocksOk (s .clocks)) _ rest₂ in
       let sender = and-left (okSender (s .sender) t (s .clocks .last .0) (l .sent)) _ rest₃ in
@@ -85,22 +79,20 @@ module _ (s : Stream) (t : Totals) (l : Lent) (len : length (l .queue) ≡ 128) 
       let is = eqb-true _ _ (and-left (eqb (t .«inflight_packets») (sumFrom k n (packetsAt (l .sent)))) _ sums₁) in
       subst (λ (x : ℕ). x ≤ k) (sym is) (packets-most (l .sent) k n)
 
-  pub ready : storesTest (l .outgoing) (l .incoming) (l .headers) ≡ false → s .queue .left ≡ 0 → Ready (outboxOf s t) (length (l .outgoing))
-  unfolding seen seenOutgoing seenQueue formed
-  ready whole rest =
+  pub ready : s .queue .left ≡ 0 → Ready (outboxOf s t) (length (l .outgoing))
+  unfolding seen seenOutgoing seenQueue
+  ready rest =
       let e = seen s t l in
-      let (laid, holds) = ok-says s t l len kept in
-      let k = rules-say e holds in
-      let f = queue-says (s .queue) (l .queue) (and-right (formedReceiver (s .receiver)) _ laid) in
+      let k = rules-say e (whole .kept) in
       let slots : length (e .sender .outgoing) ≡ 32 = table-length ceiling (outgoingSlotAt (s .sender .«remote_acked») (s .sender .seq) (l .sent) (l .outgoing)) in
       let r = k .rest rest in
       let few =
       distinct-few (s .sender .«remote_acked») (s .sender .seq - s .sender .«remote_acked») (numbers (e .queue .entries)) (r .once)
       (near (s .sender .«remote_acked») (s .sender .seq) (numbers (e .queue .entries)) (k .acked-seq) (r .known)) in
       let many : length (e .queue .entries) ≡ s .queue .count =
-      entries-length (l .headers) (s .queue .gone) (entryWords (s .queue) (l .queue)) ∙ rest-length (s .queue) (l .queue) rest (subst (λ (x : ℕ). s .queue .count ≤ x) (sym len) (f .count)) in
+      entries-length (l .headers) (s .queue .gone) (entryWords (s .queue) (l .queue)) ∙ rest-length (s .queue) (l .queue) rest (subst (λ (x : ℕ). s .queue .count ≤ x) (sym len) (whole .queue .count)) in
       record {
-        whole = eqb-true _ _ (length-of (eqb (length (l .outgoing)) 44_800) (not (eqb (length (l .incoming)) 44_160)) (not (eqb (length (l .headers)) 1_280)) whole);
+        whole = whole .outgoing;
         acked = k .acked-seq;
         near = k .seq-near;
         inflight =

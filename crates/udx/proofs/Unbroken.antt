@@ -6,10 +6,10 @@ use lib.Dec.{eqb}
 use lib.ListN.{length}
 use borrow.Author.Tests.{eqb-true}
 use Rattle.model.specs.Rules.{rules}
-use Rattle.model.proofs.Gate.{and-right}
+use Rattle.model.proofs.Gate.{and-left, and-right}
 use Rattle.records.specs.declared.Stream.{Stream}
 use Rattle.records.specs.declared.Totals.{Totals}
-use Rattle.records.specs.Seen.{Lent, seen, formed, formedReceiver}
+use Rattle.records.specs.Seen.{Lent, seen, formed, formedReceiver, formedQueue}
 use Rattle.records.specs.Open.{storesTest}
 use Rattle.records.proofs.FormedQueue.{QueueFormed, queue-says}
 use Rattle.rules.specs.Ok.{okStream}
@@ -17,11 +17,19 @@ use Rattle.rules.proofs.Seen.{ok-says}
 use Rattle.udx.specs.Agree.{laidOut}
 use Rattle.udx.specs.Refusals.{brokenRecords}
 
+-- the parts of `laidOut`
+pub still-laid : (s : Stream) (l : Lent) → storesTest (l .outgoing) (l .incoming) (l .headers) ≡ false → formedReceiver (s .receiver) ≡ true
+    → formedQueue (s .queue) (l .queue) ≡ true → laidOut s l ≡ true
+unfolding laidOut formed
+still-laid s l stores receiver words = rw (stores, receiver, words)
+
 pub record Whole (s : Stream) (t : Totals) (l : Lent) : Type 0 where
+  pub stores : storesTest (l .outgoing) (l .incoming) (l .headers) ≡ false
   pub outgoing : length (l .outgoing) ≡ 44_800
   pub incoming : length (l .incoming) ≡ 44_160
   pub headers : length (l .headers) ≡ 1_280
-  pub laid : laidOut s l ≡ true
+  pub receiver : formedReceiver (s .receiver) ≡ true
+  pub words : formedQueue (s .queue) (l .queue) ≡ true
   pub queue : QueueFormed (s .queue) (l .queue)
   pub kept : rules (seen s t l) ≡ true
   pub ok : okStream s t (l .sent) (l .held) (l .queue) ≡ true
@@ -46,17 +54,20 @@ lengths false false true h = (sym h, sym h, refl)
 lengths false false false h = (sym h, sym h, sym h)
 
 pub unbroken : (s : Stream) (t : Totals) (l : Lent) → length (l .queue) ≡ 128 → brokenRecords s t l ≡ false → Whole s t l
-unfolding brokenRecords laidOut formed
+unfolding brokenRecords formed
 unbroken s t l len h =
     let (stores, ok) = neither (storesTest (l .outgoing) (l .incoming) (l .headers)) (okStream s t (l .sent) (l .held) (l .queue)) h in
     let (a, b, c) = lengths (eqb (length (l .outgoing)) 44_800) (eqb (length (l .incoming)) 44_160) (eqb (length (l .headers)) 1_280) stores in
     let (laid, kept) = ok-says s t l len ok in
+    let words = and-right (formedReceiver (s .receiver)) _ laid in
     record {
+      stores = stores;
       outgoing = eqb-true _ _ a;
       incoming = eqb-true _ _ b;
       headers = eqb-true _ _ c;
-      laid = rw stores laid;
-      queue = queue-says (s .queue) (l .queue) (and-right (formedReceiver (s .receiver)) _ laid);
+      receiver = and-left (formedReceiver (s .receiver)) _ laid;
+      words = words;
+      queue = queue-says (s .queue) (l .queue) words;
       kept = kept;
       ok = ok;
     }

@@ -17,7 +17,6 @@ use Rattle.records.specs.declared.Totals.{Totals}
 use Rattle.records.specs.Put.{put}
 use Rattle.records.specs.Seen.{Lent}
 use Rattle.receiving.specs.declared.Read.{Read}
-use Rattle.receiving.specs.Reading.{HasRead}
 use Rattle.udx.specs.declared.step.Step.{Step}
 use Rattle.udx.specs.Agree.{laidOut, onRecords, Agrees, Unchanged}
 
@@ -41,15 +40,10 @@ readStream r s =
 abbrev pub readLent : List ℕ → Lent → Lent
 readLent held l = record { sent = l .sent; held = held; queue = l .queue; outgoing = l .outgoing; incoming = l .incoming; headers = l .headers }
 
--- it was read as `HasRead` says, and the step is made of what that left
-pub record ReadsOn (s : Stream) (t : Totals) (held : List ℕ) (incoming buf : Bytes) (r : Step) (held′ : List ℕ) (buf′ : Bytes) : Type 0 where
-  pub answer : Read
-  pub has-read : HasRead (s .receiver) held incoming buf answer held′ buf′
-  pub stream : r .stream ≡ readStream (answer .receiver) s
-  pub totals : r .totals ≡ t
-  pub outcome : r .outcome ≡ outcomeOf (answer .finished) (s .ending .error)
-  pub count : r .count ≡ answer .count
-  pub segment : r .segment ≡ 0
+-- the step of what was read
+abbrev pub readStep : Stream → Totals → Read → Step
+readStep s t a =
+    record { stream = readStream (a .receiver) s; totals = t; outcome = outcomeOf (a .finished) (s .ending .error); count = a .count; segment = 0 }
 
 -- a read answers as the model's, and its bytes stand at the front of the buffer, whose other bytes stay. Refusal 1 changes nothing;
 -- "a read with 14 to 16 keeps the bytes it put and its new place"

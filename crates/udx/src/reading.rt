@@ -1,8 +1,7 @@
 // Read (read_next, poll_read).
 ghost use mathlib.Core.Path.{_≡_};
 ghost use Rattle.udx.specs.Agree.{lent};
-ghost use Rattle.receiving.specs.Reading.{Readable};
-ghost use Rattle.udx.specs.Read.{outcomeOf, ReadsOn, Gives};
+ghost use Rattle.udx.specs.Read.{outcomeOf, readStep, Gives};
 use crate::refusals::broken;
 use crate::step::Step;
 use crate::step::refused;
@@ -10,6 +9,7 @@ use error::Outcome;
 use error::Refusal;
 use error::UdxError;
 use error::error_or;
+use receiving::Read;
 use records::Stream;
 use records::Totals;
 
@@ -23,22 +23,19 @@ fn read_outcome(finished: bool, error: UdxError) -> Outcome
     error_or(error, Outcome::Waiting)
 }
 
-// A read that is not refused with 1: bytes and new place are kept whatever the outcome is.
-fn read_on(s: Stream, t: Totals, held: &mut [u64; 32], incoming: &[u8], buf: &mut [u8]) -> Step
-    requires { ⌜ Readable (s .receiver) (now held) (now incoming) ⌝ }
-    ensures { λ r. ⌜ ReadsOn s t (now (held .entry)) (now (incoming .entry)) (now (buf .entry)) r (now (held .exit)) (now (buf .exit)) ⌝ }
+// The step of what was read: bytes and new place are kept whatever the outcome is.
+fn read_step(s: Stream, totals: Totals, a: Read) -> Step
+    ensures { λ r. ⌜ r ≡ readStep s totals a ⌝ }
 {
-    let receiver = s.receiver;
-    let a = receiving::read_next(receiver, held, incoming, buf);
-    let after = a.receiver;
     let mut stream = s;
-    stream.receiver = after;
+    let receiver = a.receiver;
+    stream.receiver = receiver;
     let ending = s.ending;
     let error = ending.error;
     let outcome = read_outcome(a.finished, error);
     Step {
         stream,
-        totals: t,
+        totals,
         outcome,
         count: a.count,
         segment: 0,
@@ -61,5 +58,7 @@ pub fn read(
     if broken(s, t, sent, held, queue, outgoing, incoming, headers) {
         return refused(s, t, Refusal::BrokenRecords);
     }
-    read_on(s, t, held, incoming, buf)
+    let receiver = s.receiver;
+    let a = receiving::read_next(receiver, held, incoming, buf);
+    read_step(s, t, a)
 }

@@ -2,12 +2,11 @@
 ghost use mathlib.Core.Path.{_≡_};
 ghost use mathlib.Core.Bool.{_&&_, not};
 ghost use lib.Dec.{leb};
-ghost use lib.ListN.{length};
 ghost use Rattle.model.specs.Sending as model;
-ghost use Rattle.sending.specs.Write.{Ready, withOutbox};
+ghost use Rattle.sending.specs.Write.{withOutbox};
 ghost use Rattle.udx.specs.Agree.{lent, Answers};
 ghost use Rattle.udx.specs.Refusals.{writeVerdict};
-ghost use Rattle.udx.specs.Write.{outboxOf, outcomeOf, Sends};
+ghost use Rattle.udx.specs.Write.{outboxOf, outcomeOf, writtenStep};
 use crate::refusals::broken;
 use crate::refusals::refuse_error;
 use crate::step::Step;
@@ -20,6 +19,7 @@ use error::refuse_if;
 use records::Stream;
 use records::Totals;
 use sending::Outbox;
+use sending::Written;
 
 // "A write that isn't empty finds seq at 4,294,967,295."
 fn exhausted(empty: bool, seq: u32) -> bool
@@ -55,6 +55,19 @@ fn write_outcome(empty: bool, count: usize) -> Outcome
     }
 }
 
+// What pieces change of a stream.
+fn outbox(s: Stream, totals: Totals) -> Outbox
+    ensures { λ r. ⌜ r ≡ outboxOf s totals ⌝ }
+{
+    let sender = s.sender;
+    let queue = s.queue;
+    Outbox {
+        sender,
+        queue,
+        totals,
+    }
+}
+
 fn with_outbox(s: Stream, o: Outbox) -> Stream
     ensures { λ r. ⌜ r ≡ withOutbox o s ⌝ }
 {
@@ -66,38 +79,14 @@ fn with_outbox(s: Stream, o: Outbox) -> Stream
     stream
 }
 
-// A write that is not refused.
-fn send(
-    s: Stream,
-    t: Totals,
-    sent: &mut [u64; 64],
-    queue: &mut [u64; 128],
-    outgoing: &mut [u8],
-    bytes: &[u8],
-) -> Step
-    requires { ⌜ Ready (outboxOf s t) (length (now outgoing)) ⌝ }
-    ensures { λ r. ⌜ Sends s t (now (bytes .entry)) (now (sent .entry)) (now (queue .entry)) (now (outgoing .entry)) r (now (sent .exit)) (now (queue .exit)) (now (outgoing .exit)) ⌝ }
+// The step of the pieces that went.
+fn written(s: Stream, w: Written, empty: bool) -> Step
+    ensures { λ r. ⌜ r ≡ writtenStep s w empty ⌝ }
 {
-    let sender = s.sender;
-    let q = s.queue;
-    let o = Outbox {
-        sender,
-        queue: q,
-        totals: t,
-    };
-    let w = sending::write_pieces(
-        o,
-        s.ids.remote,
-        s.receiver.ack,
-        sent,
-        queue,
-        outgoing,
-        bytes,
-    );
     let after = w.outbox;
     let stream = with_outbox(s, after);
     let totals = after.totals;
-    let outcome = write_outcome(bytes.len() == 0, w.count);
+    let outcome = write_outcome(empty, w.count);
     Step {
         stream,
         totals,
@@ -121,8 +110,15 @@ pub fn write(
     ensures { λ r. ⌜ Answers (model.write (now (bytes .entry))) s t (lent (now (sent .entry)) (now (held .entry)) (now (queue .entry)) (now (outgoing .entry)) (now (incoming .entry)) (now (headers .entry))) r (lent (now (sent .exit)) (now (held .entry)) (now (queue .exit)) (now (outgoing .exit)) (now (incoming .entry)) (now (headers .entry))) ⌝ }
 {
     let one = broken(s, t, sent, held, queue, outgoing, incoming, headers);
-    match write_verdict(one, s, bytes.len() == 0) {
+    let empty = bytes.len() == 0;
+    match write_verdict(one, s, empty) {
         Verdict::Refused(why) => refused(s, t, why),
-        Verdict::Clear => send(s, t, sent, queue, outgoing, bytes),
+        Verdict::Clear => {
+            let o = outbox(s, t);
+            let remote = s.ids.remote;
+            let ack = s.receiver.ack;
+            let w = sending::write_pieces(o, remote, ack, sent, queue, outgoing, bytes);
+            written(s, w, empty)
+        }
     }
 }

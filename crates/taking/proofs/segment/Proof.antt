@@ -1,9 +1,9 @@
--- `udx::taken::segment` meets its contract: a batch of one entry has no segment size.
+-- `taking::segment` meets its contract: a batch of one entry has no segment size.
 -- Assumes nothing.
 use mathlib.Core.Path.{refl}
 use borrow.Author.Tests.{eq-eqb, ne-eqb}
-use Rattle.udx.proofs.taken.segment.Statement.{statement}
-use Rattle.udx.proofs.taken.segment.Tie as tie
+use Rattle.taking.proofs.segment.Statement.{statement}
+use Rattle.taking.proofs.segment.Tie as tie
 
 returns : tie.Need-returns
 returns c = rw (eq-eqb _ _ (c .if1 .taken)) refl

@@ -1,10 +1,10 @@
--- `udx::taken::take_verdict` meets its contract: the lines of the list, from the last to the first.
+-- `udx::batches::take_verdict` meets its contract: the lines of the list, from the last to the first.
 -- Assumes nothing.
 use mathlib.Core.Path.{refl}
 use borrow.Author.Needs.{needs}
 use Rattle.udx.specs.Refusals.{takeVerdict}
-use Rattle.udx.proofs.taken.take_verdict.Statement.{statement}
-use Rattle.udx.proofs.taken.take_verdict.Tie as tie
+use Rattle.udx.proofs.batches.take_verdict.Statement.{statement}
+use Rattle.udx.proofs.batches.take_verdict.Tie as tie
 
 returns : tie.Need-returns
 unfolding takeVerdict

@@ -1,11 +1,8 @@
 // Take (poll_transmit, to_transmit).
 ghost use mathlib.Core.Path.{_≡_};
-ghost use mathlib.Core.Bool.{cond};
-ghost use lib.Dec.{eqb};
-ghost use lib.ListN.{length};
 ghost use Rattle.udx.specs.Agree.{lent};
 ghost use Rattle.udx.specs.Refusals.{takeVerdict};
-ghost use Rattle.udx.specs.Take.{nothingStep, Sendable, Hands, Transmits};
+ghost use Rattle.udx.specs.Take.{nothingStep, takenStep, Hands};
 use crate::refusals::broken;
 use crate::step::Step;
 use crate::step::refused;
@@ -16,6 +13,8 @@ use error::Verdict;
 use error::refuse_if;
 use records::Stream;
 use records::Totals;
+use taking::Handed;
+use taking::next_batch;
 
 // Refusals 1 and 2, in this order.
 fn take_verdict(broken: bool, room: usize) -> Verdict
@@ -23,13 +22,6 @@ fn take_verdict(broken: bool, room: usize) -> Verdict
 {
     let short = refuse_if(room < TAKE_ROOM, Refusal::ShortBuffer, Verdict::Clear);
     refuse_if(broken, Refusal::BrokenRecords, short)
-}
-
-// "with segment size unless it has one entry"
-fn segment(entries: u32, length: u32) -> usize
-    ensures { λ r. ⌜ r ≡ cond (eqb entries 1) 0 length ⌝ }
-{
-    if entries == 1 { 0 } else { length as usize }
 }
 
 // "None when no batch of the last drive is left"
@@ -45,36 +37,20 @@ fn nothing(stream: Stream, totals: Totals) -> Step
     }
 }
 
-// The next batch.
-fn transmit(
-    s: Stream,
-    t: Totals,
-    sent: &mut [u64; 64],
-    queue: &[u64; 128],
-    outgoing: &[u8],
-    headers: &[u8],
-    buf: &mut [u8],
-) -> Step
-    requires { ⌜ Sendable s (now sent) (now queue) (now outgoing) (now headers) (now buf) ⌝ }
-    ensures { λ r. ⌜ Transmits s t (now (sent .entry)) (now (queue .entry)) (now (outgoing .entry)) (now (headers .entry)) (now (buf .entry)) r (now (sent .exit)) (now (buf .exit)) ⌝ }
+// The step of the batch that was handed out.
+fn taken_step(s: Stream, totals: Totals, h: Handed) -> Step
+    ensures { λ r. ⌜ r ≡ takenStep s totals h ⌝ }
 {
-    let q = s.queue;
-    let sender = s.sender;
-    let drive = s.clocks.drive;
-    let k = taking::batch(q, s.ids.segments, queue);
-    let length = taking::head_length(q, queue);
-    let p = taking::to_transmit(q, sender, k, drive, sent, queue, outgoing, headers, buf);
-    let rest = taking::taken_queue(q, k, p.place);
     let mut stream = s;
-    stream.queue = rest;
-    let size = segment(k, length);
+    let queue = h.queue;
+    stream.queue = queue;
     let outcome = Outcome::Ready;
     Step {
         stream,
-        totals: t,
+        totals,
         outcome,
-        count: p.at,
-        segment: size,
+        count: h.count,
+        segment: h.segment,
     }
 }
 
@@ -96,7 +72,12 @@ pub fn take(
         Verdict::Refused(why) => refused(s, t, why),
         Verdict::Clear => {
             if 0 < s.queue.left {
-                transmit(s, t, sent, queue, outgoing, headers, buf)
+                let q = s.queue;
+                let sender = s.sender;
+                let most = s.ids.segments;
+                let drive = s.clocks.drive;
+                let h = next_batch(q, sender, most, drive, sent, queue, outgoing, headers, buf);
+                taken_step(s, t, h)
             } else {
                 nothing(s, t)
             }
