@@ -33,10 +33,9 @@ use Rattle.closing.proofs.StatePacket.{terminate-seen}
 use Rattle.udx.specs.Agree.{laidOut, refusedStep, Agrees, Answers}
 use Rattle.udx.specs.Close.{closedStep}
 use Rattle.udx.specs.Refusals.{brokenRecords, verdictOf, closeVerdict}
-use Rattle.udx.proofs.RefusalLaws.{line, refusal-one, is-refused, is-clear, acts-on, whyOf, not-true}
+use Rattle.udx.proofs.RefusalLaws.{line, clear-line, refusal-one, is-refused, is-clear, acts-on, whyOf, refused-answers}
 use Rattle.udx.proofs.Resting.{ready}
-use Rattle.udx.proofs.Unbroken.{Whole, unbroken}
-use Rattle.udx.proofs.WriteLaws.{refused-answers}
+use Rattle.udx.proofs.Unbroken.{Whole, unbroken, still-laid}
 
 -- refusals 6 and 13 look at two numbers of the queue; the second matters only where the first is 0
 last-lines : (left k n : ℕ) → (left ≡ 0 → k ≡ n)
@@ -93,15 +92,11 @@ close-refused s t l why len v =
     refused-answers close s t l why
     (is-refused close closeRefusal (λ e. answered Ready (terminate ConnectionReset e)) s t l why (λ e. refl) (v ∙ close-list s t l len))
 
-clear-line : (b : Bool) (why : Refusal) (v : Verdict) → verdict.Clear ≡ cond b (verdict.Refused why) v → (b ≡ false) × (verdict.Clear ≡ v)
-clear-line true why v h = let z : _≡_ {A = ℕ} 0 1 = cc in absurd (omega arith)
-clear-line false why v h = (refl, h)
-
 module _ (s : Stream) (t : Totals) (l : Lent) (len : length (l .queue) ≡ 128) (clear : verdict.Clear ≡ closeVerdict (brokenRecords s t l) s) where
   tests : (brokenRecords s t l ≡ false) × (s .queue .left ≡ 0) × (s .queue .states < 63)
   unfolding closeVerdict
   tests =
-      let (one, a) = clear-line (brokenRecords s t l) refusal.BrokenRecords _ clear in
+      let (one, a) = clear-line (brokenRecords s t l) refusal.BrokenRecords _ (sym clear) in
       let (_, b) = clear-line (s .ending .ended) refusal.AfterDone _ a in
       let (six, c) = clear-line (ltb 0 (s .queue .left)) refusal.BatchesLeft _ b in
       let (thirteen, _) = clear-line (leb 63 (s .queue .states)) refusal.StateQueueFull _ c in
@@ -111,18 +106,10 @@ module _ (s : Stream) (t : Totals) (l : Lent) (len : length (l .queue) ≡ 128) 
   whole : Whole s t l
   whole = unbroken s t l len (tests .0)
 
-  stores-are : storesTest (l .outgoing) (l .incoming) (l .headers) ≡ false
-  unfolding laidOut
-  stores-are = not-true _ (and-left (not (storesTest (l .outgoing) (l .incoming) (l .headers))) _ (whole .laid))
-
-  formed-is : formed s (l .queue) ≡ true
-  unfolding laidOut
-  formed-is = and-right (not (storesTest (l .outgoing) (l .incoming) (l .headers))) _ (whole .laid)
-
   -- a queue at rest has at most 32 packets beside its state packets
   pub close-able : Pushable (s .queue) (length (l .headers))
   close-able =
-      let r = ready s t l len (whole .ok) stores-are (tests .1) in
+      let r = ready s t l len whole (tests .1) in
       record {
         whole = whole .headers;
         rest = tests .1;
@@ -135,15 +122,8 @@ module _ (s : Stream) (t : Totals) (l : Lent) (len : length (l .queue) ≡ 128) 
     abbrev after : Lent
     after = withState queue′ headers′ l
 
-    queue-formed : formedQueue (s .queue) (l .queue) ≡ true
-    unfolding formed
-    queue-formed = and-right (formedReceiver (s .receiver)) _ formed-is
-
-    stays-laid : laidOut (closedStep s x a .stream) after ≡ true
-    unfolding laidOut formed
-    stays-laid =
-        let same : length headers′ ≡ length (l .headers) = sent .headers-long ∙ sym (whole .headers) in
-        rw (same, stores-are, and-left (formedReceiver (s .receiver)) _ formed-is, sent .formed queue-formed)
+    stores-same : storesTest (l .outgoing) (l .incoming) headers′ ≡ false
+    stores-same = let same : length headers′ ≡ length (l .headers) = sent .headers-long ∙ sym (whole .headers) in rw same (whole .stores)
 
     pub close-answers : Answers close s t l (closedStep s x a) after
     unfolding close
@@ -151,8 +131,8 @@ module _ (s : Stream) (t : Totals) (l : Lent) (len : length (l .queue) ≡ 128) 
         record {
           agrees =
               subst (λ (z : Answer). Agrees z (closedStep s x a) after)
-              (sym (acts-on close closeRefusal (λ e. answered Ready (terminate ConnectionReset e)) s t l (λ e. refl) (whole .laid) (is-clear closeRefusal s t l (clear ∙ close-list s t l len) .1)))
-              (record { outcome = refl; count = refl; segment = refl; end = terminate-seen s t l x ConnectionReset ended sent refl refl refl refl queue-formed });
-          stays = λ h. stays-laid;
+              (sym (acts-on close closeRefusal (λ e. answered Ready (terminate ConnectionReset e)) s t l (λ e. refl) (is-clear closeRefusal s t l (clear ∙ close-list s t l len) .0) (is-clear closeRefusal s t l (clear ∙ close-list s t l len) .1)))
+              (record { outcome = refl; count = refl; segment = refl; end = terminate-seen s t l x ConnectionReset ended sent refl refl refl refl (whole .words) });
+          stays = λ h. still-laid (closedStep s x a .stream) after stores-same (whole .receiver) (sent .formed (whole .words));
           changes-nothing = λ why z. absurd (let z′ : _≡_ {A = ℕ} 0 1 = cc in omega arith);
         }
