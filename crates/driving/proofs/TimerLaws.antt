@@ -1,0 +1,24 @@
+-- The timer's test on the records is the model's on what is seen: the two numbers that it compares are the records' own. Assumes nothing.
+use Prim.Native.Nat.{ℕ, _≤_, _<_}
+use mathlib.Core.Path.{_≡_, refl, sym}
+use mathlib.Core.Bool.{Bool, true, false, _&&_, not}
+use lib.Dec.{leb, eqb}
+use borrow.Author.Tests.{le-leb, lt-leb}
+use Rattle.model.specs.Driving.{due}
+use Rattle.records.specs.declared.Timing.{Timing}
+use Rattle.records.specs.declared.Sender.{Sender}
+use Rattle.records.specs.declared.Stream.{Stream}
+use Rattle.records.specs.declared.Totals.{Totals}
+use Rattle.records.specs.Seen.{Lent, seen}
+use Rattle.driving.specs.Timer.{IsDue}
+
+module _ (t : Timing) (clock : ℕ) (s : Sender) where
+  tested : (r : Bool) → r ≡ (leb (t .deadline .0 .0) clock && not (eqb (s .«remote_acked») (s .seq))) → IsDue t clock s r
+  unfolding due seen
+  tested r e = record { test = λ st totals l p q. rw (p, q) e }
+
+  pub is-due : t .deadline .0 .0 ≤ clock → IsDue t clock s (not (eqb (s .«remote_acked») (s .seq)))
+  is-due h = tested (not (eqb (s .«remote_acked») (s .seq))) (rw (le-leb (t .deadline .0 .0) clock h) refl)
+
+  pub not-due : clock < t .deadline .0 .0 → IsDue t clock s false
+  not-due h = tested false (rw (lt-leb (t .deadline .0 .0) clock h) refl)
