@@ -1,1 +1,3 @@
 pub mod TimerLaws
+pub mod Remark
+pub mod TimeOut

@@ -1,1 +1,3 @@
 pub mod Timer
+pub mod Packets
+pub mod Timeouts
