@@ -1,3 +1,4 @@
 pub mod TimerLaws
 pub mod Remark
 pub mod TimeOut
+pub mod Flush

@@ -1,3 +1,4 @@
 pub mod Timer
 pub mod Packets
 pub mod Timeouts
+pub mod Flushing
