@@ -2,3 +2,4 @@ pub mod TimerLaws
 pub mod Remark
 pub mod TimeOut
 pub mod Flush
+pub mod Drain
