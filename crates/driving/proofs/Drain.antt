@@ -3,7 +3,7 @@
 use Prim.Native.Nat.{ℕ, suc, _+_, _-_, _%_, _≤_, _<_}
 use native.Mathlib.Numerals.{add-one}
 use native.Mathlib.Omega.{arith}
-use mathlib.Core.Path.{_≡_, refl, ap, ap₂, sym, _∙_}
+use mathlib.Core.Path.{_≡_, refl, ap, sym, _∙_}
 use mathlib.Core.Logic.{_≢_}
 use mathlib.Core.List.{List, [], _∷_}
 use mathlib.Core.Option.{Option, none, some}
@@ -11,10 +11,10 @@ use mathlib.Core.Bool.{Bool, true, false, cond, _&&_, not}
 use lib.ListN.{length, take, length-take}
 use Rattle.error.specs.declared.UdxError.{UdxError}
 use Rattle.model.specs.Lists.{Bytes, isEmpty, on}
-use Rattle.model.specs.Slots.{Slots, ceiling, get}
+use Rattle.model.specs.Slots.{Slots, ceiling}
 use Rattle.model.specs.Stream as model
 use Rattle.model.specs.Sending.{isSet}
-use Rattle.model.specs.Driving.{anyStored, leftToTake}
+use Rattle.model.specs.Driving.{anyStored}
 use Rattle.model.specs.Driving as drive
 use Rattle.records.specs.declared.Sender.{Sender}
 use Rattle.records.specs.declared.Queue.{Queue}

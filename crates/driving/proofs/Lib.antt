@@ -3,3 +3,4 @@ pub mod Remark
 pub mod TimeOut
 pub mod Flush
 pub mod Drain
+pub mod RulesDrive

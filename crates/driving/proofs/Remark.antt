@@ -1,18 +1,17 @@
 -- A stored packet gets another waiting mark and another number of transmits: the words say just that, what is seen is the model's store with
 -- that packet marked, and every stored packet keeps the rules that it is read by. Assumes nothing.
-use Prim.Native.Nat.{ℕ, _+_, _-_, _/_, _%_, _^_, _≤_, _<_}
+use Prim.Native.Nat.{ℕ, _+_, _%_, _^_, _≤_, _<_}
 use native.Mathlib.Omega.{arith}
-use mathlib.Core.Path.{_≡_, refl, ap, sym, _∙_}
+use mathlib.Core.Path.{_≡_, refl}
 use mathlib.Core.Logic.{_≢_}
 use mathlib.Core.List.{List}
-use mathlib.Core.Option.{none, some}
-use mathlib.Core.Bool.{Bool, true, false, cond}
+use mathlib.Core.Bool.{Bool, true, false}
 use lib.Dec.{eqb}
 use borrow.Author.Tests.{eqb-true, eqb-false, not-false}
 use lib.ListN.{length, set, length-set}
 use lib.Seq.{getD-set-same, getD-set-other}
 use Rattle.model.specs.Lists.{Bytes}
-use Rattle.model.specs.Slots.{ceiling, get, insert}
+use Rattle.model.specs.Slots.{ceiling, insert}
 use Rattle.model.specs.Stream as model
 use Rattle.model.specs.Driving.{marked}
 use Rattle.records.specs.declared.words.Sent.{Sent}
@@ -20,12 +19,12 @@ use Rattle.records.specs.declared.Sender.{Sender}
 use Rattle.records.specs.Words.{sentOf, sentWord, sentTime, isStored}
 use Rattle.records.specs.Seen.{marksOf, packetOf, sentIn, seenOutgoing}
 use Rattle.records.proofs.WordLaws.{sent-back, stored-number, stored-full}
-use Rattle.records.proofs.SeenOutgoing.{withSent, get-outgoing, remark-outgoing}
+use Rattle.records.proofs.SeenOutgoing.{withSent, remark-outgoing}
 use Rattle.driving.specs.Packets.{Within, Stored}
 
 -- what a word says fits a word again
 
-untimed : (w time : ℕ) → sentOf w time .timed ≡ false → sentOf w time .«sent_at» .0 ≡ 0
+pub untimed : (w time : ℕ) → sentOf w time .timed ≡ false → sentOf w time .«sent_at» .0 ≡ 0
 unfolding sentOf
 untimed w time e = let z = eqb-true time 0 (not-false (eqb time 0) e) in omega arith
 

@@ -12,7 +12,7 @@ use lib.Dec.{ltb}
 use borrow.Author.Tests.{lt-ltb, le-ltb, not-true}
 use lib.ListN.{length}
 use Rattle.model.specs.Lists.{Bytes, on}
-use Rattle.model.specs.Slots.{Slots, ceiling, get}
+use Rattle.model.specs.Slots.{Slots, ceiling}
 use Rattle.model.specs.Stream as model
 use Rattle.model.specs.Driving as drive
 use Rattle.model.specs.Driving.{lostMarks, lost, timeOutPacket, timeOutNumber, timeOutLoop}

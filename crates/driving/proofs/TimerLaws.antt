@@ -1,15 +1,13 @@
 -- The timer's test on the records is the model's on what is seen: the two numbers that it compares are the records' own. Assumes nothing.
 use Prim.Native.Nat.{ℕ, _≤_, _<_}
-use mathlib.Core.Path.{_≡_, refl, sym}
-use mathlib.Core.Bool.{Bool, true, false, _&&_, not}
+use mathlib.Core.Path.{_≡_, refl}
+use mathlib.Core.Bool.{Bool, false, _&&_, not}
 use lib.Dec.{leb, eqb}
 use borrow.Author.Tests.{le-leb, lt-leb}
 use Rattle.model.specs.Driving.{due}
 use Rattle.records.specs.declared.Timing.{Timing}
 use Rattle.records.specs.declared.Sender.{Sender}
-use Rattle.records.specs.declared.Stream.{Stream}
-use Rattle.records.specs.declared.Totals.{Totals}
-use Rattle.records.specs.Seen.{Lent, seen}
+use Rattle.records.specs.Seen.{seen}
 use Rattle.driving.specs.Timer.{IsDue}
 
 module _ (t : Timing) (clock : ℕ) (s : Sender) where

@@ -1,13 +1,13 @@
 // Waiting packets are queued again while they fit the window (flush_waiting_packets).
 ghost use mathlib.Core.Path.{_≡_};
-ghost use mathlib.Core.Bool.{true, _&&_};
-ghost use Prim.Native.Nat.{_+_, _<_, _≤_};
+ghost use mathlib.Core.Bool.{_&&_};
+ghost use Prim.Native.Nat.{_+_, _<_};
 ghost use lib.Dec.{leb};
 ghost use Rattle.records.specs.Words.{isStored};
 ghost use Rattle.driving.specs.Flushing.{flushedPacket, flushedEntry, pushedQueue, Flushable, FlushesPacket, Roomy, Flushes};
+use crate::inflight::with_inflight;
 use crate::lengths::queue_length;
 use crate::lengths::sent_length;
-use crate::timeouts::with_inflight;
 use records::Entry;
 use records::Queue;
 use records::Sender;

@@ -2,6 +2,7 @@
 // stream that ended is drained (poll_check_timeouts, flush_waiting_packets, closed_and_drained).
 mod draining;
 mod flushing;
+mod inflight;
 mod lengths;
 mod timeouts;
 mod timer;

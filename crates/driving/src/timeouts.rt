@@ -1,10 +1,12 @@
 // What a due timer does to the stored packets: all are considered lost (the loop of poll_check_timeouts).
 ghost use mathlib.Core.Path.{_≡_};
 ghost use mathlib.Core.Bool.{_&&_, not};
-ghost use Prim.Native.Nat.{_-_, _≤_};
+ghost use Prim.Native.Nat.{_≤_};
 ghost use Rattle.records.specs.Words.{isStored};
-ghost use Rattle.driving.specs.Packets.{withInflight, Stored};
+ghost use Rattle.driving.specs.Packets.{Stored};
 ghost use Rattle.driving.specs.Timeouts.{lostPacket, TimesOut};
+use crate::inflight::less;
+use crate::inflight::with_inflight;
 use crate::lengths::sent_length;
 use constants::UDX_MAX_TRANSMITS;
 use records::Sender;
@@ -40,26 +42,6 @@ fn lost_packet(p: Sent) -> Sent
         waiting: true,
         timed: p.timed,
         sent_at,
-    }
-}
-
-// a - b, or 0 where b is more.
-fn less(a: u32, b: u32) -> u32
-    ensures { λ r. ⌜ r ≡ a - b ⌝ }
-{
-    if b <= a { a - b } else { 0 }
-}
-
-// The sender with another inflight.
-pub fn with_inflight(s: Sender, inflight: u32) -> Sender
-    ensures { λ r. ⌜ r ≡ withInflight inflight s ⌝ }
-{
-    Sender {
-        seq: s.seq,
-        remote_acked: s.remote_acked,
-        largest_ack: s.largest_ack,
-        inflight,
-        cwnd: s.cwnd,
     }
 }
 

@@ -1,5 +1,4 @@
 -- `driving::draining::left_to_take` meets its contract: the law of the queue at the end of a drive. Assumes nothing.
-use borrow.Author.Needs.{needs}
 use Rattle.driving.proofs.Drain.{leaves}
 use Rattle.driving.proofs.draining.left_to_take.Statement.{statement}
 use Rattle.driving.proofs.draining.left_to_take.Tie as tie

@@ -1,5 +1,4 @@
 -- `driving::flushing::flush_packet` meets its contract: each part is what one callee says of it. Assumes nothing.
-use mathlib.Core.Path.{_∙_, ap}
 use borrow.Author.Needs.{needs}
 use Rattle.driving.proofs.flushing.flush_packet.Statement.{statement}
 use Rattle.driving.proofs.flushing.flush_packet.Tie as tie

@@ -1,7 +1,7 @@
 -- `driving::timeouts::time_out_packets` meets its contract. The loop's invariant is `Going`: the model's loop does from number n on what it
 -- does from the first. The measure is the numbers that are left. Assumes nothing.
 use Prim.Native.Nat.{_-_}
-use mathlib.Core.Path.{sym, _∙_, ap}
+use mathlib.Core.Path.{sym, _∙_}
 use native.Mathlib.Omega.{arith}
 use borrow.Author.Needs.{needs}
 use Rattle.driving.proofs.TimeOut.{Going, starts, passes, leaves-again, ends-failed, ends}

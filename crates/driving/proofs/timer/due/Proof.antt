@@ -1,5 +1,4 @@
 -- `driving::timer::due` meets its contract: each branch has decided the first test. Assumes nothing.
-use borrow.Author.Needs.{needs}
 use Rattle.driving.proofs.TimerLaws.{is-due, not-due}
 use Rattle.driving.proofs.timer.due.Statement.{statement}
 use Rattle.driving.proofs.timer.due.Tie as tie
