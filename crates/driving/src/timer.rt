@@ -34,8 +34,8 @@ pub fn backed_off(t: Timing, clock: Nanos) -> Timing
     requires { ⌜ (t .rtt .rto .0 ≤ 5 * 2 ^ 60) × (clock .0 < 2 ^ 60) ⌝ }
     ensures { λ r. ⌜ timingSeen r ≡ model.backedOff (clock .0) (timingSeen t) ⌝ }
 {
-    let rto = t.rtt.rto.0;
-    with_deadline(t, clock, 2 * rto)
+    let twice = 2 * t.rtt.rto.0;
+    with_deadline(t, clock, twice)
 }
 
 // After settling: where remote acked moved, the deadline is the rto away.
@@ -54,11 +54,12 @@ pub fn restarted(t: Timing, clock: Nanos, moved: bool) -> Timing
 pub fn shrunk(s: Sender) -> Sender
     ensures { λ r. ⌜ Shrinks s r ⌝ }
 {
+    let half = rtt::halve(s.cwnd);
     Sender {
         seq: s.seq,
         remote_acked: s.remote_acked,
         largest_ack: s.largest_ack,
         inflight: s.inflight,
-        cwnd: rtt::halve(s.cwnd),
+        cwnd: half,
     }
 }
