@@ -1,14 +1,16 @@
--- The timer's test on the records is the model's on what is seen: the two numbers that it compares are the records' own. Assumes nothing.
+-- The timer on the records is the model's on what is seen: the numbers that its test compares are the records' own, and of the sender the
+-- window alone is another. Assumes nothing.
 use Prim.Native.Nat.{ℕ, _≤_, _<_}
-use mathlib.Core.Path.{_≡_, refl}
+use mathlib.Core.Path.{_≡_, refl, ap}
 use mathlib.Core.Bool.{Bool, false, _&&_, not}
 use lib.Dec.{leb, eqb}
 use borrow.Author.Tests.{le-leb, lt-leb}
+use Rattle.rtt.specs.Window.{halved}
 use Rattle.model.specs.Driving.{due}
 use Rattle.records.specs.declared.Timing.{Timing}
 use Rattle.records.specs.declared.Sender.{Sender}
-use Rattle.records.specs.Seen.{seen}
-use Rattle.driving.specs.Timer.{IsDue}
+use Rattle.records.specs.Seen.{seen, seenSender}
+use Rattle.driving.specs.Timer.{IsDue, Shrinks}
 
 module _ (t : Timing) (clock : ℕ) (s : Sender) where
   tested : (r : Bool) → r ≡ (leb (t .deadline .0 .0) clock && not (eqb (s .«remote_acked») (s .seq))) → IsDue t clock s r
@@ -20,3 +22,12 @@ module _ (t : Timing) (clock : ℕ) (s : Sender) where
 
   pub not-due : clock < t .deadline .0 .0 → IsDue t clock s false
   not-due h = tested false (rw (lt-leb (t .deadline .0 .0) clock h) refl)
+
+-- the sender with another window
+
+abbrev withWindow : ℕ → Sender → Sender
+withWindow cwnd s =
+    record { seq = s .seq; «remote_acked» = s .«remote_acked»; «largest_ack» = s .«largest_ack»; inflight = s .inflight; cwnd = cwnd }
+
+pub windowed : (s : Sender) (cwnd : ℕ) → cwnd ≡ halved (s .cwnd) → Shrinks s (withWindow cwnd s)
+windowed s cwnd e = record { seen = λ sent outgoing. ap (λ (w : ℕ). seenSender (withWindow w s) sent outgoing) e }

@@ -18,7 +18,7 @@ pub struct Passed {
     pub failed: bool,
 }
 
-// It is packet n, and was sent.
+// It is packet n, and does not wait: it counts as inflight.
 fn in_flight(p: Sent, n: u32) -> bool
     ensures { λ r. ⌜ r ≡ (isStored p n && not (p .waiting)) ⌝ }
 {

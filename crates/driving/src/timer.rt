@@ -44,10 +44,8 @@ pub fn restarted(t: Timing, clock: Nanos, moved: bool) -> Timing
     ensures { λ r. ⌜ timingSeen r ≡ model.restarted (clock .0) moved (timingSeen t) ⌝ }
 {
     let rto = t.rtt.rto.0;
-    if moved {
-        return with_deadline(t, clock, rto);
-    }
-    t
+    let next = with_deadline(t, clock, rto);
+    if moved { next } else { t }
 }
 
 // The sender with the window of a due timeout.

@@ -7,7 +7,7 @@ use Rattle.driving.proofs.timer.restarted.Tie as tie
 
 returns : tie.Need-returns
 unfolding restarted
-returns c = rw (c .before .if1 .taken) (c .with-deadline .ensures)
+returns c = rw (c .if1 .taken) (c .before .with-deadline .ensures)
 
 returns-2 : tie.Need-returns-2
 unfolding restarted
