@@ -1,0 +1,81 @@
+-- Waiting packets of the records are queued again: the model's loop on what is seen. Assumes nothing.
+use Prim.Native.Nat.{ℕ, _+_, _-_, _≤_, _<_}
+use mathlib.Core.Path.{_≡_}
+use mathlib.Core.List.{List}
+use mathlib.Core.Bool.{false}
+use lib.ListN.{set}
+use Rattle.model.specs.Driving as drive
+use Rattle.records.specs.declared.words.Sent.{Sent}
+use Rattle.records.specs.declared.words.Entry.{Entry}
+use Rattle.records.specs.declared.Sender.{Sender}
+use Rattle.records.specs.declared.Queue.{Queue}
+use Rattle.records.specs.declared.Stream.{Stream}
+use Rattle.records.specs.declared.Totals.{Totals}
+use Rattle.records.specs.Words.{entryWord}
+use Rattle.records.specs.Seen.{Lent, seen}
+use Rattle.records.proofs.SeenOutgoing.{withSent}
+use Rattle.records.proofs.FormedQueue.{QueueFormed}
+use Rattle.driving.specs.declared.flushing.Flushed.{Flushed}
+use Rattle.driving.specs.Packets.{Stored, withInflight}
+
+-- one packet
+
+abbrev pub flushedPacket : Sent → Sent
+flushedPacket p =
+    record { number = p .number; length = p .length; transmits = p .transmits; waiting = false; timed = p .timed; «sent_at» = p .«sent_at» }
+
+-- 01, 'Send queue': "a stored packet's number and length"
+abbrev pub flushedEntry : Sent → Entry
+flushedEntry p = record { number = p .number; length = p .length; state = false }
+
+abbrev pub pushedQueue : Queue → Queue
+pushedQueue q = record { count = q .count + 1; left = q .left; states = q .states; gone = q .gone }
+
+-- it fits the window, and the queue has a place for it
+pub record Flushable (f : Flushed) (p : Sent) : Type 0 where
+  pub window : f .sender .inflight + p .length ≤ f .sender .cwnd
+  pub place : f .queue .count < 128
+
+-- it does not wait any more, counts as inflight and is queued
+pub record FlushesPacket (f : Flushed) (p : Sent) (sent queue : List ℕ) (r : Flushed) (sent′ queue′ : List ℕ) : Type 0 where
+  pub sender : r .sender ≡ withInflight (f .sender .inflight + p .length) (f .sender)
+  pub places : r .queue ≡ pushedQueue (f .queue)
+  pub sent-words : sent′ ≡ withSent sent (p .number) (flushedPacket p)
+  pub queue-words : queue′ ≡ set queue (f .queue .count) (entryWord (flushedEntry p))
+
+-- all of them
+
+-- a stream with this sender and this queue
+abbrev pub withFlushed : Sender → Queue → Stream → Stream
+withFlushed s q st =
+    record {
+      ids = st .ids;
+      sender = s;
+      receiver = st .receiver;
+      queue = q;
+      timing = st .timing;
+      ending = st .ending;
+      clocks = st .clocks;
+    }
+
+abbrev pub withQueued : (sent queue : List ℕ) → Lent → Lent
+withQueued sent queue l =
+    record { sent = sent; held = l .held; queue = queue; outgoing = l .outgoing; incoming = l .incoming; headers = l .headers }
+
+-- what 01's rules give: each stored packet keeps them, nothing is left to take, and the queue, "an array of entries, 128 at most", has a
+-- place for each number
+pub record Roomy (s : Sender) (q : Queue) (sent : List ℕ) : Type 0 where
+  pub stored : Stored s sent
+  pub rest : q .left ≡ 0
+  pub room : q .count + (s .seq - s .«remote_acked») ≤ 128
+
+-- 01, call 4: "waiting packets are queued ascending until inflight + length exceeds the window" (flush_waiting_packets)
+pub record Flushes (s : Sender) (q : Queue) (sent queue : List ℕ) (r : Flushed) (sent′ queue′ : List ℕ) : Type 0 where
+  -- for any stream with these numbers and words the end is the model's
+  pub end : (st : Stream) (t : Totals) (l : Lent)
+      → seen (withFlushed (r .sender) (r .queue) st) t (withQueued sent′ queue′ l) ≡ drive.flush (seen (withFlushed s q st) t (withQueued sent queue l))
+  -- inflight alone differs in the sender
+  pub numbers : r .sender ≡ withInflight (r .sender .inflight) s
+  -- nothing is left to take, and the queue stays laid out as it was
+  pub rest : r .queue .left ≡ 0
+  pub formed : QueueFormed q queue → QueueFormed (r .queue) queue′

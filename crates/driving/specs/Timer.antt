@@ -1,0 +1,30 @@
+-- The retransmission timer on the records: what is seen of the timing, when the timer is due, and the sender after a due one.
+-- Assumes nothing.
+use Prim.Native.Nat.{ℕ, _+_}
+use mathlib.Core.Path.{_≡_}
+use mathlib.Core.List.{List}
+use mathlib.Core.Bool.{Bool}
+use Rattle.model.specs.Lists.{Bytes}
+use Rattle.model.specs.Stream as model
+use Rattle.model.specs.Driving as drive
+use Rattle.records.specs.declared.Timing.{Timing}
+use Rattle.records.specs.declared.Sender.{Sender}
+use Rattle.records.specs.declared.Stream.{Stream}
+use Rattle.records.specs.declared.Totals.{Totals}
+use Rattle.records.specs.Seen.{Lent, seen, seenSender}
+
+-- the timing that is seen, as in `seen`
+abbrev pub timingSeen : Timing → model.Timing
+timingSeen t = record { rtt = t .rtt; deadline = t .deadline .0 .0 }
+
+-- a deadline so many nanoseconds after the clock
+abbrev pub deadlineIn : model.Timing → (clock span : ℕ) → model.Timing
+deadlineIn t clock span = record { rtt = t .rtt; deadline = clock + span }
+
+-- 01, call 4: "if deadline is at most now and remote acked differs from seq", of any stream with this timing and this sender
+pub record IsDue (t : Timing) (clock : ℕ) (s : Sender) (r : Bool) : Type 0 where
+  pub test : (st : Stream) (totals : Totals) (l : Lent) → st .timing ≡ t → st .sender ≡ s → r ≡ drive.due clock (seen st totals l)
+
+-- 01, call 4: "the window becomes max(1,400, half)"
+pub record Shrinks (s r : Sender) : Type 0 where
+  pub seen : (sent : List ℕ) (outgoing : Bytes) → seenSender r sent outgoing ≡ drive.shrunk (seenSender s sent outgoing)

@@ -1,0 +1,126 @@
+// Waiting packets are queued again while they fit the window (flush_waiting_packets).
+ghost use mathlib.Core.Path.{_≡_};
+ghost use mathlib.Core.Bool.{_&&_};
+ghost use Prim.Native.Nat.{_+_, _<_};
+ghost use lib.Dec.{leb};
+ghost use Rattle.records.specs.Words.{isStored};
+ghost use Rattle.driving.specs.Flushing.{flushedPacket, flushedEntry, pushedQueue, Flushable, FlushesPacket, Roomy, Flushes};
+use crate::inflight::with_inflight;
+use crate::lengths::queue_length;
+use crate::lengths::sent_length;
+use records::Entry;
+use records::Queue;
+use records::Sender;
+use records::Sent;
+
+pub struct Flushed {
+    pub sender: Sender,
+    pub queue: Queue,
+}
+
+// It is packet n, and waits.
+fn waits(p: Sent, n: u32) -> bool
+    ensures { λ r. ⌜ r ≡ (isStored p n && p .waiting) ⌝ }
+{
+    if records::is_stored(p, n) {
+        p.waiting
+    } else {
+        false
+    }
+}
+
+// inflight + length is at most the window; by a difference, so that no sum can wrap.
+fn fits(inflight: u32, length: u32, cwnd: u32) -> bool
+    ensures { λ r. ⌜ r ≡ leb (inflight + length) cwnd ⌝ }
+{
+    if inflight <= cwnd {
+        length <= cwnd - inflight
+    } else {
+        false
+    }
+}
+
+fn flushed_packet(p: Sent) -> Sent
+    ensures { λ r. ⌜ r ≡ flushedPacket p ⌝ }
+{
+    let sent_at = p.sent_at;
+    Sent {
+        number: p.number,
+        length: p.length,
+        transmits: p.transmits,
+        waiting: false,
+        timed: p.timed,
+        sent_at,
+    }
+}
+
+fn flushed_entry(p: Sent) -> Entry
+    ensures { λ r. ⌜ r ≡ flushedEntry p ⌝ }
+{
+    Entry {
+        number: p.number,
+        length: p.length,
+        state: false,
+    }
+}
+
+fn pushed_queue(q: Queue) -> Queue
+    requires { ⌜ q .count < 128 ⌝ }
+    ensures { λ r. ⌜ r ≡ pushedQueue q ⌝ }
+{
+    Queue {
+        count: q.count + 1,
+        left: q.left,
+        states: q.states,
+        gone: q.gone,
+    }
+}
+
+// The packet does not wait any more, counts as inflight and is queued.
+fn flush_packet(f: Flushed, p: Sent, sent: &mut [u64; 64], queue: &mut [u64; 128]) -> Flushed
+    requires { ⌜ Flushable f p ⌝ }
+    ensures { λ r. ⌜ FlushesPacket f p (now (sent .entry)) (now (queue .entry)) r (now (sent .exit)) (now (queue .exit)) ⌝ }
+{
+    let s = f.sender;
+    let q = f.queue;
+    records::put_sent(sent, flushed_packet(p));
+    records::put_entry(queue, q.count as usize, flushed_entry(p));
+    let sender = with_inflight(s, s.inflight + p.length);
+    let next = pushed_queue(q);
+    Flushed {
+        sender,
+        queue: next,
+    }
+}
+
+// The waiting packets, ascending, up to the first that does not fit.
+pub fn flush_waiting_packets(
+    s: Sender,
+    q: Queue,
+    sent: &mut [u64; 64],
+    queue: &mut [u64; 128],
+) -> Flushed
+    requires { ⌜ Roomy s q (now sent) ⌝ }
+    ensures { λ r. ⌜ Flushes s q (now (sent .entry)) (now (queue .entry)) r (now (sent .exit)) (now (queue .exit)) ⌝ }
+{
+    sent_length(sent);
+    queue_length(queue);
+    let mut out = Flushed {
+        sender: s,
+        queue: q,
+    };
+    let mut n = s.remote_acked;
+    while n < s.seq {
+        let p = records::get_sent(sent, n);
+        let here = waits(p, n);
+        n += 1;
+        if here {
+            if fits(out.sender.inflight, p.length, s.cwnd) {
+                out = flush_packet(out, p, sent, queue);
+            } else {
+                return out;
+            }
+        }
+    }
+    out
+}
