@@ -6,8 +6,7 @@ ghost use Prim.Native.Nat.{_+_, _-_, _<_, _≤_};
 ghost use lib.Dec.{leb, ltb};
 ghost use lib.ListN.{length, getD};
 ghost use Rattle.records.specs.Words.{isStored, entryOf};
-ghost use Rattle.records.specs.Seen.{entryWords};
-ghost use Rattle.records.proofs.FormedQueue.{QueueFormed};
+ghost use Rattle.records.specs.Seen.{entryWords, QueueFormed};
 ghost use Rattle.taking.specs.Take.{
   entrySize,
   Batched,
