@@ -17,6 +17,7 @@ use error::Verdict;
 use error::refuse_if;
 use records::Stream;
 use records::Totals;
+use records::word_count;
 use rtt::Nanos;
 
 // "A lent store has another length than above"
@@ -29,12 +30,6 @@ fn stores_differ(outgoing: &[u8], incoming: &[u8], headers: &[u8]) -> bool
         }
     }
     true
-}
-
-fn size(words: &[u64]) -> usize
-    ensures { λ r. ⌜ r ≡ length (now (words .entry)) ⌝ }
-{
-    words.len()
 }
 
 // Refusal 1: "A lent store has another length than above, or a rule of the records is broken"
@@ -51,7 +46,7 @@ pub fn broken(
     ensures { λ r. ⌜ (r ≡ brokenRecords s t (lent (now (sent .entry)) (now (held .entry)) (now (queue .entry)) (now (outgoing .entry)) (now (incoming .entry)) (now (headers .entry)))) × (length (now (queue .entry)) ≡ 128) ⌝ }
 {
     // Never so: an array has its length.
-    if size(queue) != 128 {
+    if word_count(queue) != 128 {
         return true;
     }
     if stores_differ(outgoing, incoming, headers) {
