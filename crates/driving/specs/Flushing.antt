@@ -1,5 +1,5 @@
 -- Waiting packets of the records are queued again: the model's loop on what is seen. Assumes nothing.
-use Prim.Native.Nat.{ℕ, _+_, _-_, _≤_, _<_}
+use Prim.Native.Nat.{ℕ, _+_, _-_, _≤_}
 use mathlib.Core.Path.{_≡_}
 use mathlib.Core.List.{List}
 use mathlib.Core.Bool.{false}
@@ -28,22 +28,18 @@ flushedPacket p =
 abbrev pub flushedEntry : Sent → Entry
 flushedEntry p = record { number = p .number; length = p .length; state = false }
 
-abbrev pub pushedQueue : Queue → Queue
-pushedQueue q = record { count = q .count + 1; left = q .left; states = q .states; gone = q .gone }
-
--- it fits the window, and the queue has a place for it
-pub record Flushable (f : Flushed) (p : Sent) : Type 0 where
-  pub window : f .sender .inflight + p .length ≤ f .sender .cwnd
-  pub place : f .queue .count < 128
-
--- it does not wait any more, counts as inflight and is queued
-pub record FlushesPacket (f : Flushed) (p : Sent) (sent queue : List ℕ) (r : Flushed) (sent′ queue′ : List ℕ) : Type 0 where
-  pub sender : r .sender ≡ withInflight (f .sender .inflight + p .length) (f .sender)
-  pub places : r .queue ≡ pushedQueue (f .queue)
+-- it does not wait any more, and is the queue's entry `at`
+pub record FlushesPacket (p : Sent) (at : ℕ) (sent queue sent′ queue′ : List ℕ) : Type 0 where
   pub sent-words : sent′ ≡ withSent sent (p .number) (flushedPacket p)
-  pub queue-words : queue′ ≡ set queue (f .queue .count) (entryWord (flushedEntry p))
+  pub queue-words : queue′ ≡ set queue at (entryWord (flushedEntry p))
 
 -- all of them
+
+abbrev pub withCount : ℕ → Queue → Queue
+withCount count q = record { count = count; left = q .left; states = q .states; gone = q .gone }
+
+abbrev pub flushedOf : Sender → Queue → (inflight count : ℕ) → Flushed
+flushedOf s q inflight count = record { sender = withInflight inflight s; queue = withCount count q }
 
 -- a stream with this sender and this queue
 abbrev pub withFlushed : Sender → Queue → Stream → Stream
