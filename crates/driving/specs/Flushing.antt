@@ -24,7 +24,7 @@ abbrev pub flushedPacket : Sent → Sent
 flushedPacket p =
     record { number = p .number; length = p .length; transmits = p .transmits; waiting = false; timed = p .timed; «sent_at» = p .«sent_at» }
 
--- 01, 'Send queue': "a stored packet's number and length"
+-- 01, 'Records', send queue: "a stored packet's number and length"
 abbrev pub flushedEntry : Sent → Entry
 flushedEntry p = record { number = p .number; length = p .length; state = false }
 
@@ -59,7 +59,8 @@ withQueued sent queue l =
     record { sent = sent; held = l .held; queue = queue; outgoing = l .outgoing; incoming = l .incoming; headers = l .headers }
 
 -- what 01's rules give: each stored packet keeps them, nothing is left to take, and the queue, "an array of entries, 128 at most", has a
--- place for each number
+-- place for each number. A queue at rest has at most 63 state packets and one entry for each of 32 numbers, and TimedOut adds a state
+-- packet: 32 places are left.
 pub record Roomy (s : Sender) (q : Queue) (sent : List ℕ) : Type 0 where
   pub stored : Stored s sent
   pub rest : q .left ≡ 0
