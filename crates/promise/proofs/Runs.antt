@@ -24,6 +24,8 @@ use Rattle.model.specs.Driving as model-out
 use Rattle.model.specs.Calls.{Call, answer, after}
 use Rattle.model.proofs.Lists.{by-test}
 use Rattle.model.proofs.Gate.{by-gate, clear, and-true}
+use Rattle.model.proofs.Invariant.{Invariant}
+use Rattle.model.proofs.InvariantCalls.{open-keeps, call-keeps}
 use Rattle.model.proofs.NeverBroken.{never-broken}
 use Rattle.records.specs.declared.Stream.{Stream}
 use Rattle.records.specs.declared.Totals.{Totals}
@@ -132,13 +134,18 @@ module _ (x : Records) (laid : laidOut (x .stream) (x .lent) ≡ true) where
 pub record Stands (x : Records) (e : End) : Type 0 where
   pub laid : laidOut (x .stream) (x .lent) ≡ true
   pub end : seenOf x ≡ e
+  pub keeps : Invariant e
 
 pub stands-answer : (x : Records) (e : End) (v : Event) → Stands x e → Did x v → answerOf v ≡ answer (callOf (v .request)) e
 stands-answer x e v h d = did-answers x (h .laid) (v .request) (v .step) (v .lent) (v .buf) d ∙ ap (answer (callOf (v .request))) (h .end)
 
 pub stands-next : (x : Records) (e : End) (v : Event) → Stands x e → Did x v → Stands (left v) ((answer (callOf (v .request)) e) .end)
 stands-next x e v h d =
-    record { laid = did-stays x (h .laid) (v .request) (v .step) (v .lent) (v .buf) d; end = ap (λ (a : Answer). a .end) (stands-answer x e v h d) }
+    record {
+      laid = did-stays x (h .laid) (v .request) (v .step) (v .lent) (v .buf) d;
+      end = ap (λ (a : Answer). a .end) (stands-answer x e v h d);
+      keeps = call-keeps (callOf (v .request)) e (h .keeps);
+    }
 
 pub stands-run : (events : List Event) (x : Records) (e : End) → Stands x e → Run events x → Stands (lastOf events x) (after (callsOf events) e)
 stands-run [] x e h r = h
@@ -176,6 +183,7 @@ module _ (local remote segments clock : ℕ) (l : Lent) (o : Opened) (h : Opened
       record {
         laid = rw (s, stores-fit, fresh-formed local remote segments clock (l .queue)) refl;
         end = rw (s, h .opens .totals) (seen-fresh local remote segments clock l clock-fits);
+        keeps = open-keeps local remote segments clock open-clear;
       }
 
 pub same-as-model : SameAsModel

@@ -3,7 +3,7 @@
 -- bottom; above it stand its terms, in 01's words ('What the contracts say', 4). What is known of a call is the contract of its exported
 -- function (`Did`, in Runs.antt), and the histories are what the callers saw: bytes lent, counts, buffers and outcomes. Statements only:
 -- the proof is proofs/TwoEndsOnRecords.antt. Assumes nothing.
-use Prim.Native.Nat.{ℕ, _≤_, _<_}
+use Prim.Native.Nat.{ℕ, _+_, _*_, _%_, _≤_, _<_}
 use mathlib.Core.Path.{_≡_}
 use mathlib.Core.List.{List, [], _∷_, _++_, List·Memᴰ}
 use mathlib.Core.Logic.{_⊎_}
@@ -109,15 +109,35 @@ OverALine (c ∷ cs) w = FitsEnds c w × OverALine cs (turned c w)
 abbrev pub ackOf : Side → ℕ
 ackOf x = x .records .stream .receiver .ack
 
+-- "Unread in order are the bytes that reads alone, 1,380 at a time, would still put, up to the first that puts none": such reads on the
+-- records, the last one puts none
+abbrev pub IsRead : Event → Type 0
+IsRead v = (buf : Bytes) × (v .request ≡ toRead buf) × (length buf ≡ 1_380)
+
+abbrev pub ReadsAlone : List Event → Event → Records → Type 0
+ReadsAlone [] last x = IsRead last × Did x last × (last .step .count ≡ 0)
+ReadsAlone (v ∷ vs) last x = IsRead v × Did x v × ReadsAlone vs last (left v)
+
+-- the bytes that they put
+abbrev pub putByReads : List Event → Bytes
+putByReads [] = []
+putByReads (v ∷ vs) = take (v .step .count) (v .buf) ++ putByReads vs
+
 -- "stored .. under its number, with just that piece's bytes as payload"
-abbrev pub StoredBy : Side → ℕ → Bytes → Type 0
-StoredBy x n piece = (p : Packet) × (get (seenOf (x .records) .sender .outgoing) n ≡ some p) × (drop 20 (p .bytes) ≡ piece)
+pub record StoredBy (x : Side) (n : ℕ) (piece : Bytes) : Type 0 where
+  pub packet : Packet
+  pub stored : get (seenOf (x .records) .sender .outgoing) n ≡ some packet
+  pub payload : drop 20 (packet .bytes) ≡ piece
+  -- in the lent store: slot n mod 32 of 1,400 bytes, behind the 20 of the header
+  pub lies : take (length piece) (drop (n % 32 * 1_400 + 20) (x .records .lent .outgoing)) ≡ piece
 
 pub record Carried (s r : Side) : Type 0 where
   -- the bytes read are the first bytes accepted
   pub reads-first : r .past .reads ≡ take (length (r .past .reads)) (s .past .accepted)
   -- accepted = read + unread in order + packets at or past the receiver's ack
   pub accepted : s .past .accepted ≡ r .past .reads ++ (unreadInOrder (seenOf (r .records)) ++ joined (drop (ackOf r) (s .past .pieces)))
+  -- what is unread in order, as it is seen, is what reads on the records put
+  pub unread : (vs : List Event) (last : Event) → ReadsAlone vs last (r .records) → unreadInOrder (seenOf (r .records)) ≡ putByReads vs
   -- the packets are what was accepted
   pub pieces : joined (s .past .pieces) ≡ s .past .accepted
   -- the sender still stores each of those packets
