@@ -1,9 +1,8 @@
--- What the theorems ask for can be had: over any stores of 01's lengths, at any ceiling and clock that open accepts, there is an open that
--- was not refused (`can-open`), the empty list is a run from it, and so is a take that finds nothing left (`can-run`). That each call can
--- be made on any records is Contracts.antt: the functions ask for nothing. Assumes nothing.
+-- What the theorems ask for can be had: open's contract is met by the fresh stream, and take's on it by a step that finds nothing left to
+-- take, since the rules hold there. Assumes nothing.
 use Prim.Native.Nat.{ℕ, _≤_}
 use native.Mathlib.Omega.{arith}
-use mathlib.Core.Path.{_≡_, refl, sym, _∙_, subst}
+use mathlib.Core.Path.{_≡_, refl, sym, subst}
 use mathlib.Core.List.{[], _∷_}
 use mathlib.Core.Option.{none}
 use mathlib.Core.Bool.{true, false}
@@ -19,12 +18,12 @@ use Rattle.records.specs.declared.opening.Opened.{Opened}
 use Rattle.records.specs.Seen.{Lent, seen}
 use Rattle.records.specs.Open.{freshStream, freshTotals, storesTest, openWhy}
 use Rattle.records.proofs.SeenFresh.{fresh-formed}
-use Rattle.rules.specs.Ok.{okStream}
 use Rattle.rules.proofs.Seen.{ok-said}
 use Rattle.udx.specs.Refusals.{brokenRecords, takeVerdict}
 use Rattle.udx.specs.Take.{nothingStep}
 use Rattle.udx.proofs.TakeLaws.{take-nothing}
 use Rattle.promise.specs.Runs.{toTake, Event, Run, OpenedBy, handedOut}
+use Rattle.promise.specs.Possible.{Possible}
 use Rattle.promise.proofs.Runs.{open-stands}
 
 module _ (local remote segments clock : ℕ) (l : Lent) (stores : storesTest (l .outgoing) (l .incoming) (l .headers) ≡ false)
@@ -36,7 +35,7 @@ module _ (local remote segments clock : ℕ) (l : Lent) (stores : storesTest (l 
   unfolding openWhy openRefusal
   why-none = rw stores accepted
 
-  pub can-open : OpenedBy local remote segments clock l freshOpened
+  can-open : OpenedBy local remote segments clock l freshOpened
   can-open = record { opens = record { outcome = rw why-none refl; stream = rw why-none refl; totals = refl }; ready = refl }
 
   module _ (words : length (l .queue) ≡ 128) (buf : Bytes) (room : 14_000 ≤ length buf) where
@@ -56,6 +55,13 @@ module _ (local remote segments clock : ℕ) (l : Lent) (stores : storesTest (l 
     abbrev nothingTaken : Event
     nothingTaken = record { request = toTake buf; step = nothingStep (freshStream local remote segments clock) freshTotals; lent = l; buf = buf }
 
-    pub can-run : Run (nothingTaken ∷ []) (handedOut freshOpened l)
+    can-run : Run (nothingTaken ∷ []) (handedOut freshOpened l)
     unfolding freshStream
     can-run = (take-nothing (freshStream local remote segments clock) freshTotals l buf words _ refl _ refl clear (omega arith), tt)
+
+pub possible : Possible
+possible local remote segments clock l stores accepted words buf room = (
+  freshOpened local remote segments clock l stores accepted,
+  can-open local remote segments clock l stores accepted,
+  (nothingTaken local remote segments clock l stores accepted words buf room, refl, can-run local remote segments clock l stores accepted words buf room),
+)

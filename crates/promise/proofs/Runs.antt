@@ -4,40 +4,37 @@
 use Prim.Native.Nat.{ℕ, _+_, _<_, _^_}
 use native.Mathlib.Omega.{arith}
 use mathlib.Core.Path.{_≡_, refl, sym, ap, _∙_, subst}
-use mathlib.Core.List.{List, [], _∷_, _++_}
+use mathlib.Core.List.{List, [], _∷_}
 use mathlib.Core.Option.{Option, none, some}
-use mathlib.Core.Bool.{Bool, true, false, cond}
-use lib.Dec.{ltb, leb}
+use mathlib.Core.Bool.{true, false, cond}
+use lib.Dec.{ltb}
 use lib.ListN.{length, take, drop}
 use lib.Seq.{take-append-seam}
 use borrow.Author.Tests.{leb-false}
 use Rattle.error.specs.declared.Refusal.{Refusal}
 use Rattle.error.specs.declared.Refusal.the-variants.{BrokenRecords}
-use Rattle.error.specs.declared.Outcome.the-variants.{Ready, Nothing, Done}
-use Rattle.packet.specs.Header.{fields}
+use Rattle.error.specs.declared.Outcome.the-variants.{Ready, Nothing}
 use Rattle.model.specs.Lists.{Bytes}
 use Rattle.model.specs.Stream.{End, fresh}
-use Rattle.model.specs.Answers.{Test, first, Answer, answered}
+use Rattle.model.specs.Answers.{Test, Answer, answered}
 use Rattle.model.specs.Sending as model
 use Rattle.model.specs.Receiving as model-in
 use Rattle.model.specs.Driving as model-out
-use Rattle.model.specs.Calls.{Call, answer, after}
+use Rattle.model.specs.Calls.{answer, after}
 use Rattle.model.proofs.Lists.{by-test}
-use Rattle.model.proofs.Gate.{by-gate, clear, and-true}
+use Rattle.model.proofs.Gate.{by-gate, clear}
 use Rattle.model.proofs.Invariant.{Invariant}
 use Rattle.model.proofs.InvariantCalls.{open-keeps, call-keeps}
 use Rattle.model.proofs.NeverBroken.{never-broken}
-use Rattle.records.specs.declared.Stream.{Stream}
-use Rattle.records.specs.declared.Totals.{Totals}
 use Rattle.records.specs.declared.opening.Opened.{Opened}
 use Rattle.records.specs.Put.{put}
-use Rattle.records.specs.Seen.{Lent, seen, formed}
-use Rattle.records.specs.Open.{freshStream, freshTotals, storesTest, openWhy, openedStream, openedOutcome, Opens}
+use Rattle.records.specs.Seen.{Lent, seen}
+use Rattle.records.specs.Open.{freshStream, storesTest, openWhy, openedOutcome}
 use Rattle.records.proofs.SeenFresh.{seen-fresh, fresh-formed}
 use Rattle.udx.specs.declared.step.Step.{Step}
 use Rattle.udx.specs.Agree.{laidOut, onRecords, segmentOf, Agrees, Answers}
 use Rattle.udx.specs.Look.{shownOf}
-use Rattle.promise.specs.Runs.{Records, seenOf, Request, toWrite, toDeliver, toDrive, toTake, toRead, toClose, callOf, Event, left, DidWith, Did, putBy, answerOf, Run, lastOf, callsOf, OpenedBy, handedOut, Same, SameAsModel}
+use Rattle.promise.specs.Runs.{Records, seenOf, Request, toWrite, toDeliver, toDrive, toTake, toRead, toClose, callOf, Event, left, DidWith, Did, answerOf, Run, lastOf, callsOf, OpenedBy, handedOut, SameAsModel}
 
 -- which calls of the model put bytes, and how many
 

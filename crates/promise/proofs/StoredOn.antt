@@ -3,31 +3,29 @@
 use Prim.Native.Nat.{ℕ, _+_, _-_, _*_, _%_, _≤_, _<_}
 use native.Mathlib.Omega.{arith}
 use mathlib.Core.Path.{_≡_, refl, sym, ap, _∙_, subst}
-use mathlib.Core.List.{List, []}
-use mathlib.Core.Option.{Option, none, some}
+use mathlib.Core.List.{List}
+use mathlib.Core.Option.{none, some}
 use mathlib.Core.Bool.{Bool, true, false, cond, _||_, not}
 use lib.Dec.{eqb}
 use lib.ListN.{length, take, drop, length-drop}
 use borrow.Author.Tests.{eqb-true}
 use Rattle.model.specs.Lists.{Bytes}
-use Rattle.model.specs.Slots.{ceiling, get}
-use Rattle.model.specs.Stream.{Packet, End}
+use Rattle.model.specs.Slots.{ceiling}
+use Rattle.model.specs.Stream.{Packet}
 use Rattle.model.specs.TwoEnds as model
 use Rattle.model.proofs.Gate.{and-left}
-use Rattle.model.proofs.Invariant.{StoredFacts, StoredIn}
+use Rattle.model.proofs.Invariant.{StoredIn}
 use Rattle.model.proofs.Slots.{no-some, some-inj}
 use Rattle.model.proofs.SlotSums.{slots-look}
-use Rattle.records.specs.declared.words.Sent.{Sent}
 use Rattle.records.specs.Words.{isStored}
 use Rattle.records.specs.Cut.{cut, outgoingSlot}
-use Rattle.records.specs.Seen.{Lent, packetOf, sentIn, seen, formed}
+use Rattle.records.specs.Seen.{packetOf, sentIn, seen}
 use Rattle.records.specs.Open.{storesTest}
 use Rattle.records.proofs.Cut.{out-is, cut-length, cut-drop}
 use Rattle.records.proofs.SeenOutgoing.{storedAt, get-outgoing}
 use Rattle.udx.specs.Agree.{laidOut}
 use Rattle.promise.specs.Runs.{Records, seenOf}
 use Rattle.promise.specs.TwoEndsOnRecords.{Side, StoredBy}
-use Rattle.promise.proofs.Runs.{Stands}
 use Rattle.promise.proofs.Line.{seenSide, Laid}
 
 first-fits : (a b : Bool) → not (not a || b) ≡ true → a ≡ true

@@ -11,11 +11,11 @@ use Rattle.model.proofs.Invariant.{Invariant}
 use Rattle.model.proofs.TwoEnds.{two-ends}
 use Rattle.records.specs.declared.opening.Opened.{Opened}
 use Rattle.records.specs.Seen.{Lent, seen}
-use Rattle.promise.specs.Runs.{seenOf, Event, OpenedBy}
-use Rattle.promise.specs.TwoEndsOnRecords.{Side, Ends, Turn, onA, onB, turned, lastOf, OverALine, ReadsAlone, Carried, opened, bothOpened, TwoEndsOnRecords}
-use Rattle.promise.proofs.Runs.{Stands, open-clear, open-stands}
+use Rattle.promise.specs.Runs.{OpenedBy}
+use Rattle.promise.specs.TwoEndsOnRecords.{Ends, Turn, onA, onB, turned, lastOf, OverALine, Carried, opened, bothOpened, TwoEndsOnRecords}
+use Rattle.promise.proofs.Runs.{open-clear, open-stands}
 use Rattle.promise.proofs.Line.{seenSide, seenEnds, commandsOf, Laid, BothLaid, turn-laid, run-same, line-same}
-use Rattle.promise.proofs.Unread.{readSide, readTurns, reads-line, reads-last, unread-is}
+use Rattle.promise.proofs.Unread.{readTurns, reads-line, reads-last, unread-is}
 use Rattle.promise.proofs.StoredOn.{stored-on}
 
 -- one list of calls after another
@@ -108,7 +108,8 @@ over-last (onB v ∷ cs) w = over-last cs (turned (onB v) w)
 
 pub two-ends-on-records : TwoEndsOnRecords
 two-ends-on-records i j segmentsA segmentsB clockA clockB idI idJ lentA lentB a b openA openB turns line =
-    let w = bothOpened a b lentA lentB in
-    (one-way i j segmentsA segmentsB clockA clockB idI idJ lentA lentB a b openA openB turns line,
-    subst (λ (z : Ends). Carried (z .a) (z .b)) (over-last turns w)
-    (one-way j i segmentsB segmentsA clockB clockA idJ idI lentB lentA b a openB openA (overTurns turns) (over-line turns w line)))
+    let w = bothOpened a b lentA lentB in (
+      one-way i j segmentsA segmentsB clockA clockB idI idJ lentA lentB a b openA openB turns line,
+      subst (λ (z : Ends). Carried (z .a) (z .b)) (over-last turns w)
+          (one-way j i segmentsB segmentsA clockB clockA idJ idI lentB lentA b a openB openA (overTurns turns) (over-line turns w line)),
+    )

@@ -5,7 +5,7 @@ use Prim.Native.Nat.{ℕ, zero, suc, _-_}
 use native.Mathlib.Omega.{arith}
 use mathlib.Core.Path.{_≡_, refl, sym, ap, _∙_, subst}
 use mathlib.Core.List.{List, [], _∷_, _++_, append-assoc, append-nil}
-use mathlib.Core.Bool.{Bool, true, false, cond}
+use mathlib.Core.Bool.{cond}
 use mathlib.Core.Option.{Option, none, some}
 use lib.Dec.{ltb}
 use lib.ListN.{length, take, drop, length-append}
@@ -18,12 +18,11 @@ use Rattle.model.specs.Answers.{Answer}
 use Rattle.model.specs.Receiving.{Got, rest, finished, gotNone, gotFront, gotWhole, readLoop, readNext, readAnswer, readRefusal, read}
 use Rattle.model.specs.Calls.{answer}
 use Rattle.model.specs.TwoEnds as model
-use Rattle.model.specs.TwoEnds.{History, unreadLoop, unreadInOrder}
+use Rattle.model.specs.TwoEnds.{unreadLoop, unreadInOrder}
 use Rattle.model.proofs.Lists.{by-test}
 use Rattle.model.proofs.Gate.{by-gate}
 use Rattle.records.specs.Seen.{seen}
-use Rattle.udx.specs.Agree.{segmentOf}
-use Rattle.promise.specs.Runs.{Records, seenOf, Request, toRead, callOf, Event, left, Did, putBy, answerOf}
+use Rattle.promise.specs.Runs.{seenOf, Request, callOf, Event, Did, putBy, answerOf}
 use Rattle.promise.specs.TwoEndsOnRecords.{noted, Side, happened, Ends, Turn, onB, turned, lastOf, Brings, OverALine, ackOf, IsRead, ReadsAlone, putByReads}
 use Rattle.promise.proofs.Runs.{stands-answer}
 use Rattle.promise.proofs.Line.{seenSide, Laid, call-laid}
