@@ -63,5 +63,5 @@ pub possible : Possible
 possible local remote segments clock l stores accepted words buf room = (
   freshOpened local remote segments clock l stores accepted,
   can-open local remote segments clock l stores accepted,
-  (nothingTaken local remote segments clock l stores accepted words buf room, refl, can-run local remote segments clock l stores accepted words buf room),
+  (nothingTaken local remote segments clock l stores accepted words buf room, refl, refl, can-run local remote segments clock l stores accepted words buf room),
 )

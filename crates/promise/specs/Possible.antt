@@ -7,6 +7,7 @@ use mathlib.Core.List.{[], _∷_}
 use mathlib.Core.Option.{none}
 use mathlib.Core.Bool.{false}
 use lib.ListN.{length}
+use Rattle.error.specs.declared.Outcome.the-variants.{Nothing}
 use Rattle.model.specs.Lists.{Bytes}
 use Rattle.model.specs.Sending.{openRefusal}
 use Rattle.records.specs.declared.opening.Opened.{Opened}
@@ -14,7 +15,7 @@ use Rattle.records.specs.Seen.{Lent}
 use Rattle.records.specs.Open.{storesTest}
 use Rattle.promise.specs.Runs.{toTake, Event, Run, OpenedBy, handedOut}
 
--- the call is a take, into a buffer that is large enough; the queue has its 128 words
+-- the call is a take into a buffer that is large enough, which finds nothing left to take; the queue has its 128 words
 abbrev pub Possible : Type 0
 Possible =
     (local remote segments clock : ℕ) (l : Lent)
@@ -23,4 +24,4 @@ Possible =
     → length (l .queue) ≡ 128
     → (buf : Bytes)
     → 14_000 ≤ length buf
-    → (o : Opened) × OpenedBy local remote segments clock l o × ((v : Event) × (v .request ≡ toTake buf) × Run (v ∷ []) (handedOut o l))
+    → (o : Opened) × OpenedBy local remote segments clock l o × ((v : Event) × (v .request ≡ toTake buf) × (v .step .outcome ≡ Nothing) × Run (v ∷ []) (handedOut o l))

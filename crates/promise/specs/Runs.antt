@@ -25,7 +25,8 @@ use Rattle.udx.specs.Look.{shownOf}
 use Rattle.udx.specs.Read.{Gives}
 use Rattle.udx.specs.Take.{Hands}
 
--- one end's records: numbers and totals, and the words and stores that its calls are lent
+-- one end's records: numbers and totals, and the words and stores that its calls are lent. The words have the lengths of their arrays,
+-- which nothing here needs: the contracts hold for all.
 pub record Records : Type 0 where
   pub stream : Stream
   pub totals : Totals
