@@ -13,6 +13,7 @@ pub contracts : {M : Type 1} (𝓤 : URA M) (H : Heap 𝓤) (A : Atoms 𝓤) (me
 contracts 𝓤 H A mem run =
     record {
       write = λ κs x r y. (refl, refl);
+      deliver = λ κs x r y. (refl, refl);
       take = λ κs x r y. (refl, refl);
       read = λ κs x r y. (refl, refl);
       close = λ κs x r y. (refl, refl);

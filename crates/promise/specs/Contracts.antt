@@ -1,6 +1,6 @@
 -- A call on the records (`Did`, in Runs.antt) is the contract of the exported function, word for word: with the numbers, words, stores and
 -- buffers that it was lent and those that it left, its `ensures` is `Did`, and it requires nothing. So an exported function that says less,
--- or asks for more, is noticed here; today `write`, `take`, `read` and `close`, and beside them `look` and `open`. `x` are the parameters,
+-- or asks for more, is noticed here; `write`, `deliver`, `take`, `read` and `close`, and beside them `look` and `open`. `x` are the parameters,
 -- `y` what they are at the end, `r` is the result. Statements only: the proof is proofs/Contracts.antt. Assumes nothing.
 use mathlib.Core.Path.{_≡_}
 use mathlib.Core.List.{[]}
@@ -26,11 +26,12 @@ use Rattle.udx.specs.declared.step.Step.{Step}
 use Rattle.udx.specs.Agree.{lent}
 use Rattle.udx.specs.Look.{shownOf}
 use Rattle.udx.proofs.write as write
+use Rattle.udx.proofs.deliver as deliver
 use Rattle.udx.proofs.take as take
 use Rattle.udx.proofs.read as read
 use Rattle.udx.proofs.close as close
 use Rattle.udx.proofs.look as look
-use Rattle.promise.specs.Runs.{Records, Request, toWrite, toTake, toRead, toClose, Event, Did}
+use Rattle.promise.specs.Runs.{Records, Request, toWrite, toDeliver, toTake, toRead, toClose, Event, Did}
 
 abbrev pub recordsOf : Stream → Totals → Lent → Records
 recordsOf s t l = record { stream = s; totals = t; lent = l }
@@ -52,6 +53,18 @@ module _ {M : Type 1} (𝓤 : URA M) (H : Heap 𝓤) (A : Atoms 𝓤) (mem : Mem
       × (c .ensures tt r y
       ≡ ⌜ Did (recordsOf s t (lent (now sent) (now held) (now queue) (now outgoing) (now incoming) (now headers)))
       (eventOf (toWrite (now bytes)) r (lent (now sent′) (now held) (now queue′) (now outgoing′) (now incoming) (now headers)) []) ⌝)
+
+  -- udx/src/datagrams.rt
+  abbrev pub Deliver : Type 2
+  Deliver =
+      (κs : Lfts 7) (x : Args deliver.signature κs) (r : Res deliver.signature κs) (y : AtExit deliver.ended κs)
+      → let (s, (t, (sent, (held, (queue, (outgoing, (incoming, (headers, (datagram, (clock, _)))))))))) = x in
+      let (_, (_, (sent′, (held′, (queue′, (_, (incoming′, (headers′, (_, (_, _)))))))))) = y in
+      let c = deliver.clauses 𝓤 H A mem run κs x in
+      (c .requires tt ≡ ⊤ₛ)
+      × (c .ensures tt r y
+      ≡ ⌜ Did (recordsOf s t (lent (now sent) (now held) (now queue) (now outgoing) (now incoming) (now headers)))
+      (eventOf (toDeliver (now datagram) (clock .0)) r (lent (now sent′) (now held′) (now queue′) (now outgoing) (now incoming′) (now headers′)) []) ⌝)
 
   -- udx/src/batches.rt
   abbrev pub Take : Type 2
@@ -111,6 +124,7 @@ module _ {M : Type 1} (𝓤 : URA M) (H : Heap 𝓤) (A : Atoms 𝓤) (mem : Mem
 
   pub record Contracts : Type 2 where
     pub write : Write
+    pub deliver : Deliver
     pub take : Take
     pub read : Read
     pub close : Close
