@@ -14,14 +14,13 @@ fn all_held(cursor: u32, top: u32, held: &[u64; 32]) -> bool
     let mut n = cursor;
     while n < top {
         let p = records::get_held(held, n);
-        let here = records::is_held(p, n);
         // "at most 1,380 held"
         let short = records::is_short(held, n, 1_380);
         // "offsets fit the lengths"
         if both(short, p.offset < p.past) {
             n += 1;
         } else {
-            if here {
+            if records::is_held(p, n) {
                 return false;
             }
             n += 1;

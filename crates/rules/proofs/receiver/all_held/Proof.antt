@@ -23,10 +23,10 @@ loop-holds c = (refl, omega arith)
 loop-again : tie.Need-loop-again Inv-loop μ-loop
 loop-again c =
     let i = c .before .before .before in
-    let r = i .before .before .get-held in
-    let t = i .before .before .before .loop-test .taken in
-    let l = i .before .before .before .before .loop in
-    let a = i .before .before .before .before .before in
+    let r = i .before .get-held in
+    let t = i .before .before .loop-test .taken in
+    let l = i .before .before .before .loop in
+    let a = i .before .before .before .before in
     let top-fits : a .args .top ≤ 4_294_967_295 = omega (arith, a .fits .top) in
     let test = kept-by (a .args .held .now) (l .n) (r .result) _ _ (r .ensures) (i .is-short .ensures) (c .before .both .ensures) in
     let rule = kept _ _ (l .n) (a .args .held .now) (r .result) (r .ensures) (l .inv .1) t (a .pre) top-fits (sym test ∙ c .if1 .taken) in
@@ -34,26 +34,26 @@ loop-again c =
 
 returns : tie.Need-returns Inv-loop μ-loop
 returns c =
-    let i = c .before .before .before .before in
-    let r = i .before .before .get-held in
-    let t = i .before .before .before .loop-test .taken in
-    let l = i .before .before .before .before .loop in
-    let a = i .before .before .before .before .before in
+    let i = c .before .before .before .before .before in
+    let r = i .before .get-held in
+    let t = i .before .before .loop-test .taken in
+    let l = i .before .before .before .loop in
+    let a = i .before .before .before .before in
     let top-fits : a .args .top ≤ 4_294_967_295 = omega (arith, a .fits .top) in
-    let test = kept-by (a .args .held .now) (l .n) (r .result) _ _ (r .ensures) (i .is-short .ensures) (c .before .before .both .ensures) in
-    let here = sym (i .before .is-held .ensures) ∙ c .if2 .taken in
-    let rule = broken _ _ (l .n) (a .args .held .now) (r .result) (r .ensures) (l .inv .1) t (a .pre) top-fits (sym test ∙ c .before .if1 .left) here in
+    let test = kept-by (a .args .held .now) (l .n) (r .result) _ _ (r .ensures) (i .is-short .ensures) (c .before .before .before .both .ensures) in
+    let here = sym (c .before .is-held .ensures) ∙ c .if2 .taken in
+    let rule = broken _ _ (l .n) (a .args .held .now) (r .result) (r .ensures) (l .inv .1) t (a .pre) top-fits (sym test ∙ c .before .before .if1 .left) here in
     every-stop _ (l .n) _ t rule ∙ l .inv .0
 
 loop-again-2 : tie.Need-loop-again-2 Inv-loop μ-loop
 loop-again-2 c =
-    let i = c .before .before .before .before in
-    let r = i .before .before .get-held in
-    let t = i .before .before .before .loop-test .taken in
-    let l = i .before .before .before .before .loop in
-    let a = i .before .before .before .before .before in
+    let i = c .before .before .before .before .before in
+    let r = i .before .get-held in
+    let t = i .before .before .loop-test .taken in
+    let l = i .before .before .before .loop in
+    let a = i .before .before .before .before in
     let top-fits : a .args .top ≤ 4_294_967_295 = omega (arith, a .fits .top) in
-    let none = sym (i .before .is-held .ensures) ∙ c .if2 .left in
+    let none = sym (c .before .is-held .ensures) ∙ c .if2 .left in
     let rule = absent _ _ (l .n) (a .args .held .now) (r .result) (r .ensures) (l .inv .1) t (a .pre) top-fits none in
     (every-turn _ (l .n) _ t rule ∙ l .inv .0, omega arith)
 
@@ -70,10 +70,10 @@ all-held-spec =
     (λ c κs. search needs)
     (λ c κs. search needs)
     (λ c κs. search needs)
-    (λ c κs. search needs)
     (λ c. search needs)
     (λ c. search needs)
     loop-again
+    (λ c κs. search needs)
     returns
     (λ c. search needs)
     (λ c. search needs)
