@@ -43,11 +43,15 @@ fn queued_ok(near: bool, x: Entry, sent: &[u64; 64]) -> bool
     both(sized(x.length), same)
 }
 
-// The entry of a packet that is stored with that length, as most are; same says that the word in its slot has its number and its length.
+// The quick test: a packet that is stored with the entry's length, as most are. same says that the word in its slot has its number and
+// its length.
 fn plain(acked: u32, seq: u32, x: Entry, same: bool) -> bool
     ensures { λ r. ⌜ r ≡ (leb acked (x .number) && (ltb (x .number) seq && (same && sized (x .length)))) ⌝ }
 {
-    both(acked <= x.number, both(x.number < seq, both(same, sized(x.length))))
+    both(
+        acked <= x.number,
+        both(x.number < seq, both(same, sized(x.length))),
+    )
 }
 
 // The entries of the words from first to below end. One mark for each slot tells whether a number was there before.

@@ -20,6 +20,7 @@ fn all_held(cursor: u32, top: u32, held: &[u64; 32]) -> bool
         if both(short, p.offset < p.past) {
             n += 1;
         } else {
+            // Asked only here: most words pass the test above.
             if records::is_held(p, n) {
                 return false;
             }
