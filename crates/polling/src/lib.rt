@@ -1,0 +1,13 @@
+// A drive that is neither refused nor done: the largest ack is settled, a due timer considers the packets lost, and waiting packets are
+// queued again (poll_drive).
+mod settling;
+
+use records::Stream;
+use records::Totals;
+pub use settling::handle_incoming_max_remote_ack;
+
+// The numbers after a part of a drive.
+pub struct Polled {
+    pub stream: Stream,
+    pub totals: Totals,
+}
