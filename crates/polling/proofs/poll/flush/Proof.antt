@@ -1,0 +1,12 @@
+-- `polling::poll::flush` meets its contract: waiting packets are queued, then all that is queued is left to take. Assumes nothing.
+use borrow.Author.Needs.{needs}
+use Rattle.polling.proofs.Whole.{flushes}
+use Rattle.polling.proofs.poll.flush.Statement.{statement}
+use Rattle.polling.proofs.poll.flush.Tie as tie
+
+returns : tie.Need-returns
+returns c =
+    flushes (c .before .before .before .before .before .before .before .before .before .before .pre) (c .before .before .before .before .before .flush-waiting-packets .ensures) (c .before .before .before .sized .ensures) (c .left-to-take .ensures)
+
+pub flush-spec : {M : Type 1} → statement M
+flush-spec = tie.close (tie.spec (λ c κs. search needs) (λ c κs. search needs) (λ c κs. search needs) returns)
