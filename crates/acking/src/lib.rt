@@ -75,19 +75,12 @@ fn acked_totals(t: Totals, p: Sent) -> Totals
     }
 }
 
-// There are 64 words: a proof is told the length of a slice, and not that of an array that is lent.
-fn whole(sent: &[u64; 64])
-    ensures { λ _. ⌜ length (now (sent .entry)) ≡ 64 ⌝ }
-{
-    let words: &[u64] = sent;
-}
-
 // Packet n leaves, where it is stored (handle_remote_ack_for_packet).
 pub fn handle_remote_ack(a: Acks, clock: Nanos, sent: &mut [u64; 64], n: u32) -> Acks
     requires { ⌜ Timed a (clock .0) × InWindow (a .sender) n ⌝ }
     ensures { λ r. ⌜ AcksOne (clock .0) n a (now (sent .entry)) r (now (sent .exit)) ⌝ }
 {
-    whole(sent);
+    records::word_count(sent);
     let p = records::get_sent(sent, n);
     if records::is_stored(p, n) {
         let sender = left_sender(a.sender, p);

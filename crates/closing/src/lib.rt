@@ -140,13 +140,6 @@ fn counted_state(t: Totals) -> Totals
     }
 }
 
-// There are 128 words. Nothing is done: a proof is told the length of a slice, and not that of an array that is lent.
-fn sized(queue: &[u64; 128])
-    ensures { λ _. ⌜ length (now (queue .entry)) ≡ 128 ⌝ }
-{
-    let words: &[u64] = queue;
-}
-
 // send_state_packet: the header is frozen at the next place of the header store, with the numbers as they are now.
 pub fn send_state_packet(
     q: Queue,
@@ -161,7 +154,7 @@ pub fn send_state_packet(
     requires { ⌜ Pushable q (length (now headers)) ⌝ }
     ensures { λ r. ⌜ StateQueued q t error remote seq ack (now (queue .entry)) (now (headers .entry)) r (now (queue .exit)) (now (headers .exit)) ⌝ }
 {
-    sized(queue);
+    records::word_count(queue);
     let h = state_header(error, remote, seq, ack);
     stores::put_header(headers, q.states, h);
     let at = q.count as usize;

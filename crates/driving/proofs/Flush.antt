@@ -9,7 +9,6 @@ use mathlib.Core.List.{List}
 use mathlib.Core.Option.{Option, none, some}
 use mathlib.Core.Bool.{Bool, true, false, cond, _&&_, true≢false}
 use lib.Dec.{leb}
-use borrow.Author.Tests.{leb-true}
 use lib.ListN.{length, set, length-set}
 use Rattle.model.specs.Lists.{Bytes, on}
 use Rattle.model.specs.Slots.{Slots, ceiling}
@@ -28,9 +27,8 @@ use Rattle.records.proofs.Cut.{cut-length}
 use Rattle.records.proofs.SeenOutgoing.{withSent, get-outgoing}
 use Rattle.records.proofs.SeenQueue.{queue-packet}
 use Rattle.records.proofs.FormedQueue.{QueueFormed, formed-packet}
-use Rattle.driving.specs.declared.flushing.Flushed.{Flushed}
 use Rattle.driving.specs.Packets.{Stored, withInflight}
-use Rattle.driving.specs.Flushing.{flushedPacket, flushedEntry, pushedQueue, Flushable, FlushesPacket, Roomy, Flushes}
+use Rattle.driving.specs.Flushing.{flushedPacket, flushedEntry, withCount, flushedOf, FlushesPacket, Roomy, Flushes}
 use Rattle.driving.proofs.Remark.{transmits-fit, remark-length, remark-seen, stored-again}
 
 -- an end with the sender and the queue that are seen
@@ -87,21 +85,20 @@ module _ (s : Sender) (q : Queue) (sent queue : List ℕ) (n : ℕ) (low : s .«
 
 -- the loop
 
-pub record Going (s : Sender) (q : Queue) (sent₀ queue₀ sent queue : List ℕ) (f : Flushed) (n : ℕ) : Type 0 where
+pub record Going (s : Sender) (q : Queue) (sent₀ queue₀ sent queue : List ℕ) (inflight count n : ℕ) : Type 0 where
   pub sent-long : length sent ≡ 64
   pub queue-long : length queue ≡ 128
   pub low : s .«remote_acked» ≤ n
   pub stored : Stored s sent
-  pub numbers : f .sender ≡ withInflight (f .sender .inflight) s
-  pub rest : f .queue .left ≡ 0
-  pub room : f .queue .count + (s .seq - n) ≤ 128
-  pub formed : QueueFormed q queue₀ → QueueFormed (f .queue) queue
+  pub rest : q .left ≡ 0
+  pub room : count + (s .seq - n) ≤ 128
+  pub formed : QueueFormed q queue₀ → QueueFormed (withCount count q) queue
   pub same : (outgoing headers : Bytes) (e : model.End)
-      → flushLoop (s .seq - n) n (seenOf (withInflight (f .sender .inflight) s) (f .queue) sent queue outgoing headers e)
+      → flushLoop (s .seq - n) n (seenOf (withInflight inflight s) (withCount count q) sent queue outgoing headers e)
       ≡ flush (seenOf s q sent₀ queue₀ outgoing headers e)
 
 pub starts : (s : Sender) (q : Queue) (sent queue : List ℕ) → Roomy s q sent → length sent ≡ 64 → length queue ≡ 128
-    → Going s q sent queue sent queue (record { sender = s; queue = q }) (s .«remote_acked»)
+    → Going s q sent queue sent queue (s .inflight) (q .count) (s .«remote_acked»)
 unfolding flush
 starts s q sent queue r ls lq =
     record {
@@ -109,37 +106,29 @@ starts s q sent queue r ls lq =
       queue-long = lq;
       low = omega arith;
       stored = r .stored;
-      numbers = refl;
       rest = r .rest;
       room = r .room;
       formed = λ f. f;
       same = λ outgoing headers e. refl;
     }
 
-module _ {s : Sender} {q : Queue} {sent₀ queue₀ sent queue : List ℕ} {f : Flushed} {n : ℕ} (g : Going s q sent₀ queue₀ sent queue f n) where
-  abbrev inflight : ℕ
-  inflight = f .sender .inflight
-
-  abbrev now-seen : Bytes → Bytes → model.End → model.End
-  now-seen outgoing headers e = seenOf (withInflight inflight s) (f .queue) sent queue outgoing headers e
+module _ {s : Sender} {q : Queue} {sent₀ queue₀ sent queue : List ℕ} {inflight count n : ℕ} (g : Going s q sent₀ queue₀ sent queue inflight count n) where
+  abbrev seenNow : Bytes → Bytes → model.End → model.End
+  seenNow outgoing headers e = seenOf (withInflight inflight s) (withCount count q) sent queue outgoing headers e
 
   -- the model's loop does nothing more
-  over : ((outgoing headers : Bytes) (e : model.End) → now-seen outgoing headers e ≡ flushLoop (s .seq - n) n (now-seen outgoing headers e))
-      → Flushes s q sent₀ queue₀ f sent queue
+  over : ((outgoing headers : Bytes) (e : model.End) → seenNow outgoing headers e ≡ flushLoop (s .seq - n) n (seenNow outgoing headers e))
+      → Flushes s q sent₀ queue₀ (flushedOf s q inflight count) sent queue
   unfolding seen
   over h =
       record {
-        end =
-            λ st t l.
-            ap (λ (x : Sender). seenOf x (f .queue) sent queue (l .outgoing) (l .headers) (seen st t l)) (g .numbers)
-            ∙ h (l .outgoing) (l .headers) (seen st t l)
-            ∙ g .same (l .outgoing) (l .headers) (seen st t l);
-        numbers = g .numbers;
+        end = λ st t l. h (l .outgoing) (l .headers) (seen st t l) ∙ g .same (l .outgoing) (l .headers) (seen st t l);
+        numbers = refl;
         rest = g .rest;
         formed = g .formed;
       }
 
-  pub ends : s .seq ≤ n → Flushes s q sent₀ queue₀ f sent queue
+  pub ends : s .seq ≤ n → Flushes s q sent₀ queue₀ (flushedOf s q inflight count) sent queue
   unfolding flushLoop
   ends h =
       let none : s .seq - n ≡ 0 = omega arith in
@@ -152,104 +141,98 @@ module _ {s : Sender} {q : Queue} {sent₀ queue₀ sent queue : List ℕ} {f : 
     left-is : s .seq - n ≡ suc (s .seq - (n + 1))
     left-is = omega arith
 
+    -- a place for this number and for each of the others
+    pub place : count < 128
+    place = let r = g .room in omega arith
+
     -- one turn of the model's loop, that of number n
     one : (e e′ : model.End) → flushLoop (suc (s .seq - (n + 1))) n e ≡ flushLoop (s .seq - (n + 1)) (suc n) e′
         → flushLoop (s .seq - (n + 1)) (n + 1) e′ ≡ flushLoop (s .seq - n) n e
     one e e′ h = ap (λ (m : ℕ). flushLoop (s .seq - (n + 1)) m e′) (add-one n) ∙ sym h ∙ ap (λ (m : ℕ). flushLoop m n e) (sym left-is)
 
-    pub passes : (isStored packet n && packet .waiting) ≡ false → Going s q sent₀ queue₀ sent queue f (n + 1)
+    pub passes : (isStored packet n && packet .waiting) ≡ false → Going s q sent₀ queue₀ sent queue inflight count (n + 1)
     passes h =
         record {
           sent-long = g .sent-long;
           queue-long = g .queue-long;
           low = let l = g .low in omega arith;
           stored = g .stored;
-          numbers = g .numbers;
           rest = g .rest;
           room = let r = g .room in omega arith;
           formed = g .formed;
           same =
               λ outgoing headers e.
-              one (now-seen outgoing headers e) (now-seen outgoing headers e)
-              (passed (withInflight inflight s) (f .queue) sent queue n (g .low) more outgoing headers e (s .seq - (n + 1)) h)
+              one (seenNow outgoing headers e) (seenNow outgoing headers e)
+              (passed (withInflight inflight s) (withCount count q) sent queue n (g .low) more outgoing headers e (s .seq - (n + 1)) h)
               ∙ g .same outgoing headers e;
         }
 
     module _ (h : (isStored packet n && packet .waiting) ≡ true) where
-      pub ends-full : leb (inflight + packet .length) (s .cwnd) ≡ false → Flushes s q sent₀ queue₀ f sent queue
+      pub ends-full : leb (inflight + packet .length) (s .cwnd) ≡ false → Flushes s q sent₀ queue₀ (flushedOf s q inflight count) sent queue
       ends-full long =
           over
           (λ outgoing headers e.
-          sym (waited (withInflight inflight s) (f .queue) sent queue n (g .low) more outgoing headers e (s .seq - (n + 1)) h false long)
-          ∙ ap (λ (m : ℕ). flushLoop m n (now-seen outgoing headers e)) (sym left-is))
+          sym (waited (withInflight inflight s) (withCount count q) sent queue n (g .low) more outgoing headers e (s .seq - (n + 1)) h false long)
+          ∙ ap (λ (m : ℕ). flushLoop m n (seenNow outgoing headers e)) (sym left-is))
 
       there : isStored packet n ≡ true
       there = and-left (isStored packet n) (packet .waiting) h
 
-      place : f .queue .count < 128
-      place = let r = g .room in omega arith
+      -- the words after it
+      abbrev sent-after : List ℕ
+      sent-after = withSent sent n (flushedPacket packet)
 
-      module _ (enough : leb (inflight + packet .length) (s .cwnd) ≡ true) where
-        pub flushable : Flushable f packet
-        flushable =
-            let l : inflight + packet .length ≤ s .cwnd = leb-true (inflight + packet .length) (s .cwnd) enough in
-            record { window = rw (ap (λ (x : Sender). x .cwnd) (g .numbers)) l; place = place }
+      abbrev queue-after : List ℕ
+      queue-after = set queue count (entryWord (flushedEntry packet))
 
-        module _ (fit : n < 2 ^ 32) where
-          entry-said : entryOf (entryWord (flushedEntry packet)) ≡ flushedEntry packet
-          entry-said =
-              let l = g .stored n (g .low) more there .short in
-              entry-back (flushedEntry packet) (omega arith) (rw (stored-number packet n there) fit)
+      module _ (enough : leb (inflight + packet .length) (s .cwnd) ≡ true) (fit : n < 2 ^ 32) where
+        entry-said : entryOf (entryWord (flushedEntry packet)) ≡ flushedEntry packet
+        entry-said =
+            let l = g .stored n (g .low) more there .short in
+            entry-back (flushedEntry packet) (omega arith) (rw (stored-number packet n there) fit)
 
-          roomy : f .queue .count < length queue
-          roomy = let r = place in let l = g .queue-long in omega arith
+        roomy : count < length queue
+        roomy = let r = place in let l = g .queue-long in omega arith
 
-          -- the records after it are seen as the model's
-          flushed-seen : (outgoing headers : Bytes) (e : model.End)
-              → seenOf (withInflight (inflight + packet .length) s) (pushedQueue (f .queue)) (withSent sent n (flushedPacket packet))
-              (set queue (f .queue .count) (entryWord (flushedEntry packet))) outgoing headers e
-              ≡ flushed n (packetOf outgoing (n % ceiling) packet) (now-seen outgoing headers e)
-          flushed-seen outgoing headers e =
-              let size = sym (cut-length outgoingSlot outgoing (n % ceiling) (packet .length)) in
-              ap₂ (λ (a : model.Sender) (b : model.Queue). model.withQueue b (model.withSender a e))
-              (ap₂ (numbersOf s) (ap (λ (k : ℕ). inflight + k) size)
-              (remark-seen s sent (g .sent-long) (g .stored) n (g .low) more there fit false (packet .transmits) (transmits-fit _ _) outgoing flushedMarks refl))
-              (queue-packet (f .queue) (pushedQueue (f .queue)) queue roomy (flushedEntry packet) entry-said (g .rest) (g .rest) refl refl headers refl
-              ∙ ap₂ (λ (m k : ℕ). pushed (model.packet m k) (seenQueue (f .queue) queue headers)) (stored-number packet n there) size)
+        -- the records after it are seen as the model's
+        flushed-seen : (outgoing headers : Bytes) (e : model.End)
+            → seenOf (withInflight (inflight + packet .length) s) (withCount (count + 1) q) sent-after queue-after outgoing headers e
+            ≡ flushed n (packetOf outgoing (n % ceiling) packet) (seenNow outgoing headers e)
+        flushed-seen outgoing headers e =
+            let size = sym (cut-length outgoingSlot outgoing (n % ceiling) (packet .length)) in
+            ap₂ (λ (a : model.Sender) (b : model.Queue). model.withQueue b (model.withSender a e))
+            (ap₂ (numbersOf s) (ap (λ (k : ℕ). inflight + k) size)
+            (remark-seen s sent (g .sent-long) (g .stored) n (g .low) more there fit false (packet .transmits) (transmits-fit _ _) outgoing flushedMarks refl))
+            (queue-packet (withCount count q) (withCount (count + 1) q) queue roomy (flushedEntry packet) entry-said (g .rest) (g .rest) refl refl headers refl
+            ∙ ap₂ (λ (m k : ℕ). pushed (model.packet m k) (seenQueue (withCount count q) queue headers)) (stored-number packet n there) size)
 
-          pub goes : Going s q sent₀ queue₀ (withSent sent n (flushedPacket packet)) (set queue (f .queue .count) (entryWord (flushedEntry packet)))
-              (record { sender = withInflight (inflight + packet .length) s; queue = pushedQueue (f .queue) }) (n + 1)
-          goes =
-              record {
-                sent-long = remark-length sent (g .sent-long) n (flushedPacket packet);
-                queue-long = simp length-set (g .queue-long);
-                low = let l = g .low in omega arith;
-                stored = stored-again s sent (g .sent-long) (g .stored) n (g .low) more there fit false (packet .transmits) (transmits-fit _ _);
-                numbers = refl;
-                rest = g .rest;
-                room = let r = g .room in omega arith;
-                formed =
-                    λ w.
-                    formed-packet (f .queue) (pushedQueue (f .queue)) queue (g .formed w) roomy place (flushedEntry packet) entry-said
-                    (g .rest) (g .rest) refl refl refl refl;
-                same =
-                    λ outgoing headers e.
-                    one (now-seen outgoing headers e)
-                    (seenOf (withInflight (inflight + packet .length) s) (pushedQueue (f .queue)) (withSent sent n (flushedPacket packet))
-                    (set queue (f .queue .count) (entryWord (flushedEntry packet))) outgoing headers e)
-                    (waited (withInflight inflight s) (f .queue) sent queue n (g .low) more outgoing headers e (s .seq - (n + 1)) h true enough
-                    ∙ ap (flushLoop (s .seq - (n + 1)) (suc n)) (sym (flushed-seen outgoing headers e)))
-                    ∙ g .same outgoing headers e;
-              }
+        goes : Going s q sent₀ queue₀ sent-after queue-after (inflight + packet .length) (count + 1) (n + 1)
+        goes =
+            record {
+              sent-long = remark-length sent (g .sent-long) n (flushedPacket packet);
+              queue-long = simp length-set (g .queue-long);
+              low = let l = g .low in omega arith;
+              stored = stored-again s sent (g .sent-long) (g .stored) n (g .low) more there fit false (packet .transmits) (transmits-fit _ _);
+              rest = g .rest;
+              room = let r = g .room in omega arith;
+              formed =
+                  λ w.
+                  formed-packet (withCount count q) (withCount (count + 1) q) queue (g .formed w) roomy place (flushedEntry packet) entry-said
+                  (g .rest) (g .rest) refl refl refl refl;
+              same =
+                  λ outgoing headers e.
+                  one (seenNow outgoing headers e)
+                  (seenOf (withInflight (inflight + packet .length) s) (withCount (count + 1) q) sent-after queue-after outgoing headers e)
+                  (waited (withInflight inflight s) (withCount count q) sent queue n (g .low) more outgoing headers e (s .seq - (n + 1)) h true enough
+                  ∙ ap (flushLoop (s .seq - (n + 1)) (suc n)) (sym (flushed-seen outgoing headers e)))
+                  ∙ g .same outgoing headers e;
+            }
 
 -- the same of what the code read and made: p is the packet of n
-pub goes-again : {s : Sender} {q : Queue} {sent₀ queue₀ sent queue : List ℕ} {f : Flushed} {n : ℕ} → Going s q sent₀ queue₀ sent queue f n → n < s .seq → n < 2 ^ 32
-    → (p : Sent) → p ≡ sentIn sent (n % ceiling) → (isStored p n && p .waiting) ≡ true → leb (f .sender .inflight + p .length) (s .cwnd) ≡ true
-    → (r : Flushed) (sent′ queue′ : List ℕ) → FlushesPacket f p sent queue r sent′ queue′ → Going s q sent₀ queue₀ sent′ queue′ r (n + 1)
-goes-again {s = s} {sent = sent} {f = f} {n = n} g more fit p is h enough r sent′ queue′ x =
-    let sender = x .sender ∙ ap (withInflight (f .sender .inflight + p .length)) (g .numbers) in
+pub goes-again : {s : Sender} {q : Queue} {sent₀ queue₀ sent queue : List ℕ} {inflight count n : ℕ} → Going s q sent₀ queue₀ sent queue inflight count n → n < s .seq → n < 2 ^ 32
+    → (p : Sent) → p ≡ sentIn sent (n % ceiling) → (isStored p n && p .waiting) ≡ true → leb (inflight + p .length) (s .cwnd) ≡ true
+    → (sent′ queue′ : List ℕ) → FlushesPacket p count sent queue sent′ queue′ → Going s q sent₀ queue₀ sent′ queue′ (inflight + p .length) (count + 1) (n + 1)
+goes-again {sent = sent} {n = n} g more fit p is h enough sent′ queue′ x =
     let there = and-left (isStored p n) (p .waiting) h in
-    let made : r ≡ record { sender = withInflight (f .sender .inflight + p .length) s; queue = pushedQueue (f .queue) } =
-    ap₂ (λ (a : Sender) (b : Queue). record { sender = a; queue = b }) sender (x .places) in
-    rw (made, x .sent-words ∙ ap (λ (k : ℕ). withSent sent k (flushedPacket p)) (stored-number p n there), x .queue-words, is)
+    rw (x .sent-words ∙ ap (λ (k : ℕ). withSent sent k (flushedPacket p)) (stored-number p n there), x .queue-words, is)
     (goes g more (rw is at h) (rw is at enough) fit)

@@ -1,16 +1,16 @@
--- The timer on the records is the model's on what is seen: the numbers that its test compares are the records' own, and of the sender the
--- window alone is another. Assumes nothing.
-use Prim.Native.Nat.{ℕ, _≤_, _<_}
+-- The timer on the records is the model's on what is seen: the numbers that its test compares are the records' own, of the sender the window
+-- alone is another, and of the timing the deadline. Assumes nothing.
+use Prim.Native.Nat.{ℕ, _+_, _≤_, _<_}
 use mathlib.Core.Path.{_≡_, refl, ap}
-use mathlib.Core.Bool.{Bool, false, _&&_, not}
+use mathlib.Core.Bool.{Bool, true, false, cond, _&&_, not}
 use lib.Dec.{leb, eqb}
 use borrow.Author.Tests.{le-leb, lt-leb}
 use Rattle.rtt.specs.Window.{halved}
-use Rattle.model.specs.Driving.{due}
+use Rattle.model.specs.Driving.{due, restarted}
 use Rattle.records.specs.declared.Timing.{Timing}
 use Rattle.records.specs.declared.Sender.{Sender}
 use Rattle.records.specs.Seen.{seen, seenSender}
-use Rattle.driving.specs.Timer.{IsDue, Shrinks}
+use Rattle.driving.specs.Timer.{timingSeen, withDeadline, IsDue, Shrinks}
 
 module _ (t : Timing) (clock : ℕ) (s : Sender) where
   tested : (r : Bool) → r ≡ (leb (t .deadline .0 .0) clock && not (eqb (s .«remote_acked») (s .seq))) → IsDue t clock s r
@@ -31,3 +31,10 @@ withWindow cwnd s =
 
 pub windowed : (s : Sender) (cwnd : ℕ) → cwnd ≡ halved (s .cwnd) → Shrinks s (withWindow cwnd s)
 windowed s cwnd e = record { seen = λ sent outgoing. ap (λ (w : ℕ). seenSender (withWindow w s) sent outgoing) e }
+
+-- the deadline after settling
+
+pub restarted-is : (clock : ℕ) (moved : Bool) (t : Timing) → withDeadline (cond moved (clock + t .rtt .rto .0) (t .deadline .0 .0)) (timingSeen t) ≡ restarted clock moved (timingSeen t)
+unfolding restarted
+restarted-is clock true t = refl
+restarted-is clock false t = refl

@@ -38,7 +38,7 @@ withQueue q st =
       clocks = st .clocks;
     }
 
--- 01, 'Stream': "how many queue entries that drive left to take"; call 5: "what was queued since waits for the next drive"
+-- 01, 'Records', stream: "how many queue entries that drive left to take"; call 5: "what was queued since waits for the next drive"
 pub record LeavesToTake (q r : Queue) : Type 0 where
   pub end : (st : Stream) (t : Totals) (l : Lent) → q .count ≤ length (l .queue) → seen (withQueue r st) t l ≡ drive.leftToTake (seen (withQueue q st) t l)
   pub formed : (queue : List ℕ) → QueueFormed q queue → QueueFormed r queue

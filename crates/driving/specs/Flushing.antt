@@ -1,5 +1,5 @@
 -- Waiting packets of the records are queued again: the model's loop on what is seen. Assumes nothing.
-use Prim.Native.Nat.{ℕ, _+_, _-_, _≤_, _<_}
+use Prim.Native.Nat.{ℕ, _+_, _-_, _≤_}
 use mathlib.Core.Path.{_≡_}
 use mathlib.Core.List.{List}
 use mathlib.Core.Bool.{false}
@@ -24,26 +24,22 @@ abbrev pub flushedPacket : Sent → Sent
 flushedPacket p =
     record { number = p .number; length = p .length; transmits = p .transmits; waiting = false; timed = p .timed; «sent_at» = p .«sent_at» }
 
--- 01, 'Send queue': "a stored packet's number and length"
+-- 01, 'Records', send queue: "a stored packet's number and length"
 abbrev pub flushedEntry : Sent → Entry
 flushedEntry p = record { number = p .number; length = p .length; state = false }
 
-abbrev pub pushedQueue : Queue → Queue
-pushedQueue q = record { count = q .count + 1; left = q .left; states = q .states; gone = q .gone }
-
--- it fits the window, and the queue has a place for it
-pub record Flushable (f : Flushed) (p : Sent) : Type 0 where
-  pub window : f .sender .inflight + p .length ≤ f .sender .cwnd
-  pub place : f .queue .count < 128
-
--- it does not wait any more, counts as inflight and is queued
-pub record FlushesPacket (f : Flushed) (p : Sent) (sent queue : List ℕ) (r : Flushed) (sent′ queue′ : List ℕ) : Type 0 where
-  pub sender : r .sender ≡ withInflight (f .sender .inflight + p .length) (f .sender)
-  pub places : r .queue ≡ pushedQueue (f .queue)
+-- it does not wait any more, and is the queue's entry `at`
+pub record FlushesPacket (p : Sent) (at : ℕ) (sent queue sent′ queue′ : List ℕ) : Type 0 where
   pub sent-words : sent′ ≡ withSent sent (p .number) (flushedPacket p)
-  pub queue-words : queue′ ≡ set queue (f .queue .count) (entryWord (flushedEntry p))
+  pub queue-words : queue′ ≡ set queue at (entryWord (flushedEntry p))
 
 -- all of them
+
+abbrev pub withCount : ℕ → Queue → Queue
+withCount count q = record { count = count; left = q .left; states = q .states; gone = q .gone }
+
+abbrev pub flushedOf : Sender → Queue → (inflight count : ℕ) → Flushed
+flushedOf s q inflight count = record { sender = withInflight inflight s; queue = withCount count q }
 
 -- a stream with this sender and this queue
 abbrev pub withFlushed : Sender → Queue → Stream → Stream
@@ -63,7 +59,8 @@ withQueued sent queue l =
     record { sent = sent; held = l .held; queue = queue; outgoing = l .outgoing; incoming = l .incoming; headers = l .headers }
 
 -- what 01's rules give: each stored packet keeps them, nothing is left to take, and the queue, "an array of entries, 128 at most", has a
--- place for each number
+-- place for each number. A queue at rest has at most 63 state packets and one entry for each of 32 numbers, and TimedOut adds a state
+-- packet: 32 places are left.
 pub record Roomy (s : Sender) (q : Queue) (sent : List ℕ) : Type 0 where
   pub stored : Stored s sent
   pub rest : q .left ≡ 0

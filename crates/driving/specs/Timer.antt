@@ -1,6 +1,6 @@
 -- The retransmission timer on the records: what is seen of the timing, when the timer is due, and the sender after a due one.
 -- Assumes nothing.
-use Prim.Native.Nat.{ℕ, _+_}
+use Prim.Native.Nat.{ℕ}
 use mathlib.Core.Path.{_≡_}
 use mathlib.Core.List.{List}
 use mathlib.Core.Bool.{Bool}
@@ -17,9 +17,8 @@ use Rattle.records.specs.Seen.{Lent, seen, seenSender}
 abbrev pub timingSeen : Timing → model.Timing
 timingSeen t = record { rtt = t .rtt; deadline = t .deadline .0 .0 }
 
--- a deadline so many nanoseconds after the clock
-abbrev pub deadlineIn : model.Timing → (clock span : ℕ) → model.Timing
-deadlineIn t clock span = record { rtt = t .rtt; deadline = clock + span }
+abbrev pub withDeadline : ℕ → model.Timing → model.Timing
+withDeadline at t = record { rtt = t .rtt; deadline = at }
 
 -- 01, call 4: "if deadline is at most now and remote acked differs from seq", of any stream with this timing and this sender
 pub record IsDue (t : Timing) (clock : ℕ) (s : Sender) (r : Bool) : Type 0 where

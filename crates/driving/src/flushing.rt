@@ -4,7 +4,7 @@ ghost use mathlib.Core.Bool.{_&&_};
 ghost use Prim.Native.Nat.{_+_, _<_};
 ghost use lib.Dec.{leb};
 ghost use Rattle.records.specs.Words.{isStored};
-ghost use Rattle.driving.specs.Flushing.{flushedPacket, flushedEntry, pushedQueue, Flushable, FlushesPacket, Roomy, Flushes};
+ghost use Rattle.driving.specs.Flushing.{flushedPacket, flushedEntry, withCount, flushedOf, FlushesPacket, Roomy, Flushes};
 use crate::inflight::with_inflight;
 use crate::lengths::queue_length;
 use crate::lengths::sent_length;
@@ -64,36 +64,38 @@ fn flushed_entry(p: Sent) -> Entry
     }
 }
 
-fn pushed_queue(q: Queue) -> Queue
-    requires { ⌜ q .count < 128 ⌝ }
-    ensures { λ r. ⌜ r ≡ pushedQueue q ⌝ }
+fn with_count(q: Queue, count: u32) -> Queue
+    ensures { λ r. ⌜ r ≡ withCount count q ⌝ }
 {
     Queue {
-        count: q.count + 1,
+        count,
         left: q.left,
         states: q.states,
         gone: q.gone,
     }
 }
 
-// The packet does not wait any more, counts as inflight and is queued.
-fn flush_packet(f: Flushed, p: Sent, sent: &mut [u64; 64], queue: &mut [u64; 128]) -> Flushed
-    requires { ⌜ Flushable f p ⌝ }
-    ensures { λ r. ⌜ FlushesPacket f p (now (sent .entry)) (now (queue .entry)) r (now (sent .exit)) (now (queue .exit)) ⌝ }
+fn with_flushed(s: Sender, q: Queue, inflight: u32, count: u32) -> Flushed
+    ensures { λ r. ⌜ r ≡ flushedOf s q inflight count ⌝ }
 {
-    let s = f.sender;
-    let q = f.queue;
-    records::put_sent(sent, flushed_packet(p));
-    records::put_entry(queue, q.count as usize, flushed_entry(p));
-    let sender = with_inflight(s, s.inflight + p.length);
-    let next = pushed_queue(q);
+    let sender = with_inflight(s, inflight);
+    let next = with_count(q, count);
     Flushed {
         sender,
         queue: next,
     }
 }
 
-// The waiting packets, ascending, up to the first that does not fit.
+// The packet does not wait any more, and is the queue's entry `at`.
+fn flush_packet(p: Sent, at: u32, sent: &mut [u64; 64], queue: &mut [u64; 128])
+    requires { ⌜ at < 128 ⌝ }
+    ensures { λ _. ⌜ FlushesPacket p at (now (sent .entry)) (now (queue .entry)) (now (sent .exit)) (now (queue .exit)) ⌝ }
+{
+    records::put_sent(sent, flushed_packet(p));
+    records::put_entry(queue, at as usize, flushed_entry(p));
+}
+
+// The waiting packets, ascending, up to the first that does not fit: each counts as inflight again and is queued.
 pub fn flush_waiting_packets(
     s: Sender,
     q: Queue,
@@ -105,22 +107,22 @@ pub fn flush_waiting_packets(
 {
     sent_length(sent);
     queue_length(queue);
-    let mut out = Flushed {
-        sender: s,
-        queue: q,
-    };
+    let mut inflight = s.inflight;
+    let mut count = q.count;
     let mut n = s.remote_acked;
     while n < s.seq {
         let p = records::get_sent(sent, n);
         let here = waits(p, n);
         n += 1;
         if here {
-            if fits(out.sender.inflight, p.length, s.cwnd) {
-                out = flush_packet(out, p, sent, queue);
+            if fits(inflight, p.length, s.cwnd) {
+                flush_packet(p, count, sent, queue);
+                inflight += p.length;
+                count += 1;
             } else {
-                return out;
+                return with_flushed(s, q, inflight, count);
             }
         }
     }
-    out
+    with_flushed(s, q, inflight, count)
 }

@@ -1,8 +1,9 @@
 // The retransmission timer: whether it is due, its next deadline, and the window after it.
 ghost use mathlib.Core.Path.{_≡_};
+ghost use mathlib.Core.Bool.{cond};
 ghost use Prim.Native.Nat.{_*_, _^_, _≤_, _<_};
 ghost use Rattle.model.specs.Driving as model;
-ghost use Rattle.driving.specs.Timer.{timingSeen, deadlineIn, IsDue, Shrinks};
+ghost use Rattle.driving.specs.Timer.{timingSeen, withDeadline, IsDue, Shrinks};
 use records::Deadline;
 use records::Sender;
 use records::Timing;
@@ -19,13 +20,12 @@ pub fn due(t: Timing, clock: Nanos, s: Sender) -> bool
     }
 }
 
-// The timing with the deadline that many nanoseconds after the clock.
-fn with_deadline(t: Timing, clock: Nanos, span: u64) -> Timing
-    requires { ⌜ (span ≤ 10 * 2 ^ 60) × (clock .0 < 2 ^ 60) ⌝ }
-    ensures { λ r. ⌜ timingSeen r ≡ deadlineIn (timingSeen t) (clock .0) span ⌝ }
+// The timing with another deadline.
+fn with_deadline(t: Timing, at: u64) -> Timing
+    ensures { λ r. ⌜ timingSeen r ≡ withDeadline at (timingSeen t) ⌝ }
 {
     let rtt = t.rtt;
-    let deadline = Deadline(Nanos(clock.0 + span));
+    let deadline = Deadline(Nanos(at));
     Timing { rtt, deadline }
 }
 
@@ -34,8 +34,15 @@ pub fn backed_off(t: Timing, clock: Nanos) -> Timing
     requires { ⌜ (t .rtt .rto .0 ≤ 5 * 2 ^ 60) × (clock .0 < 2 ^ 60) ⌝ }
     ensures { λ r. ⌜ timingSeen r ≡ model.backedOff (clock .0) (timingSeen t) ⌝ }
 {
-    let twice = 2 * t.rtt.rto.0;
-    with_deadline(t, clock, twice)
+    let at = clock.0 + 2 * t.rtt.rto.0;
+    with_deadline(t, at)
+}
+
+// One of two instants.
+fn pick(t: bool, a: u64, b: u64) -> u64
+    ensures { λ r. ⌜ r ≡ cond t a b ⌝ }
+{
+    if t { a } else { b }
 }
 
 // After settling: where remote acked moved, the deadline is the rto away.
@@ -43,9 +50,9 @@ pub fn restarted(t: Timing, clock: Nanos, moved: bool) -> Timing
     requires { ⌜ (t .rtt .rto .0 ≤ 5 * 2 ^ 60) × (clock .0 < 2 ^ 60) ⌝ }
     ensures { λ r. ⌜ timingSeen r ≡ model.restarted (clock .0) moved (timingSeen t) ⌝ }
 {
-    let rto = t.rtt.rto.0;
-    let next = with_deadline(t, clock, rto);
-    if moved { next } else { t }
+    let next = clock.0 + t.rtt.rto.0;
+    let old = t.deadline.0.0;
+    with_deadline(t, pick(moved, next, old))
 }
 
 // The sender with the window of a due timeout.

@@ -17,19 +17,13 @@ ghost use Rattle.receiving.specs.Reading.{
 };
 use records::Held;
 use records::Receiver;
-
-// There are 32 words. Nothing is done: a proof is told the length of a slice, and not that of an array that is lent.
-fn sized(held: &[u64; 32])
-    ensures { λ _. ⌜ length (now (held .entry)) ≡ 32 ⌝ }
-{
-    let words: &[u64] = held;
-}
+use records::word_count;
 
 // Clears the words of the numbers from top to below n. Once top is past them a word that was left there would be a packet.
 fn clear_gap(held: &mut [u64; 32], top: u32, n: u32)
     ensures { λ _. ⌜ Cleared (now (held .entry)) top n (now (held .exit)) ⌝ }
 {
-    sized(held);
+    word_count(held);
     let mut m = top;
     while m < n {
         records::clear_held(held, m);
@@ -64,7 +58,7 @@ fn insert(
     };
     let top = top_with(r.top, n);
     clear_gap(held, r.top, n);
-    sized(held);
+    word_count(held);
     records::put_held(held, p);
     stores::put_payload(incoming, n, payload);
     Receiver {
@@ -152,7 +146,7 @@ fn read_front(held: &mut [u64; 32], incoming: &[u8], buf: &mut [u8], at: usize, 
         offset: p.offset + room,
     };
     put_next(buf, at, incoming, p, room);
-    sized(held);
+    word_count(held);
     records::put_held(held, q);
 }
 

@@ -1,6 +1,6 @@
--- How the queue is laid out, as facts (`QueueFormed`) beside the test `formedQueue`, and that a pushed entry, the end of a drive and
--- taken entries keep it. Only the number of state packets asks for more than arithmetic. Assumes nothing.
-use Prim.Native.Nat.{ℕ, _+_, _-_, _≤_, _<_}
+-- How the queue is laid out: the test `formedQueue` says what the facts `QueueFormed` say, and a pushed entry, the end of a drive and
+-- taken entries keep them. Only the number of state packets asks for more than arithmetic. Assumes nothing.
+use Prim.Native.Nat.{ℕ, _+_, _-_, _<_}
 use native.Mathlib.Numerals.{add-one}
 use native.Mathlib.Omega.{arith}
 use mathlib.Core.Path.{_≡_, refl, ap, sym, _∙_}
@@ -13,16 +13,9 @@ use lib.Seq.{take-suc-set}
 use Rattle.records.specs.declared.words.Entry.{Entry}
 use Rattle.records.specs.declared.Queue.{Queue}
 use Rattle.records.specs.Words.{entryOf, entryWord}
-use Rattle.records.specs.Seen.{entryWords, formedQueue}
+use Rattle.records.specs.Seen.{entryWords, stateWords, formedQueue, QueueFormed}
 use Rattle.model.proofs.Gate.{and-left, and-right}
-use Rattle.records.proofs.SeenQueue.{stateWords, words-append, words-rest, words-pushed, words-drive, words-take}
-
-pub record QueueFormed (q : Queue) (words : List ℕ) : Type 0 where
-  pub count : q .count ≤ 128
-  pub left : q .left ≤ q .count
-  pub states : q .states ≤ 64
-  pub places : q .states ≡ q .gone + stateWords (entryWords q words)
-  pub gone : q .left ≡ 0 → q .gone ≡ 0
+use Rattle.records.proofs.SeenQueue.{words-append, words-rest, words-pushed, words-drive, words-take}
 
 module _ (q : Queue) (words : List ℕ) where
   -- the two mean the same

@@ -19,13 +19,9 @@ use Rattle.records.specs.declared.words.Sent.{Sent}
 use Rattle.records.specs.Words.{sentOf, sentWord, sentTime, isStored}
 use Rattle.records.specs.Cut.{cut, outgoingSlot}
 use Rattle.records.specs.Put.{put}
-use Rattle.records.specs.Seen.{marksOf, packetOf, sentIn, seenOutgoing}
+use Rattle.records.specs.Seen.{marksOf, packetOf, sentIn, withSent, seenOutgoing}
 use Rattle.records.proofs.Cut.{out-is, cut-same, cut-other}
 use Rattle.records.proofs.SeenSlots.{Cell, shown, shown-in, shown-below, shown-above, shown-same, shown-high, slots-length, slots-get, slots-none, slots-same, slots-insert, slots-drop, slots-settle, remove-absent}
-
--- the words after packet p was put into the slot of number n
-abbrev pub withSent : List ℕ → ℕ → Sent → List ℕ
-withSent words n p = set (set words (n % ceiling) (sentWord p)) (32 + n % ceiling) (sentTime p)
 
 -- what is stored under number n
 abbrev pub storedAt : List ℕ → Bytes → ℕ → Option model.Packet

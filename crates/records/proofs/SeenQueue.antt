@@ -20,12 +20,8 @@ use Rattle.records.specs.declared.Queue.{Queue}
 use Rattle.records.specs.Words.{entryOf, entryWord}
 use Rattle.records.specs.Cut.{cut, headerSlot}
 use Rattle.records.specs.Put.{put}
-use Rattle.records.specs.Seen.{entryWords, seenEntries, seenQueue}
+use Rattle.records.specs.Seen.{entryWords, seenEntries, stateWords, seenQueue}
 use Rattle.records.proofs.Cut.{head-is, cut-same, cut-other}
-
--- the state packets among some words
-abbrev pub stateWords : List ℕ → ℕ
-stateWords words = states (seenEntries [] 0 words)
 
 -- the entries of some words
 

@@ -1,9 +1,9 @@
 -- What opening answers and hands out. Assumes nothing.
 use Prim.Native.Nat.{ℕ, _+_, _%_, _^_}
 use mathlib.Core.Path.{_≡_}
-use mathlib.Core.List.{List, [], _∷_}
+use mathlib.Core.List.{List, _∷_}
 use mathlib.Core.Option.{Option, none, some}
-use mathlib.Core.Bool.{Bool, cond, false, _||_, not}
+use mathlib.Core.Bool.{Bool, false, _||_, not}
 use lib.Dec.{eqb}
 use lib.ListN.{length}
 use Rattle.error.specs.declared.Refusal.{Refusal}
@@ -13,7 +13,7 @@ use Rattle.error.specs.declared.Outcome.{Outcome}
 use Rattle.error.specs.declared.Outcome.the-variants.{Ready, Refused}
 use Rattle.rtt.specs.Estimate as estimate
 use Rattle.rtt.specs.Estimate.{nanos}
-use Rattle.model.specs.Answers.{Test, first}
+use Rattle.model.specs.Answers.{first}
 use Rattle.model.specs.Sending.{openTests}
 use Rattle.records.specs.declared.StreamState.the-variants as state
 use Rattle.records.specs.declared.Timing.{Timing}

@@ -1,11 +1,12 @@
 -- What the records and the lent words and stores mean: the end of the model that they are (`seen`), and the rules that they keep
 -- beside 01's because of how they are laid out (`formed`). Assumes nothing.
-use Prim.Native.Nat.{ℕ, zero, suc, _+_, _-_, _%_}
+use Prim.Native.Nat.{ℕ, suc, _+_, _-_, _%_, _≤_}
+use mathlib.Core.Path.{_≡_}
 use mathlib.Core.List.{List, [], _∷_}
 use mathlib.Core.Option.{Option, none, some}
 use mathlib.Core.Bool.{Bool, cond, _&&_, _||_}
 use lib.Dec.{ltb, leb, eqb}
-use lib.ListN.{getD, take, drop}
+use lib.ListN.{set, getD, take, drop}
 use Rattle.model.specs.Lists.{Bytes}
 use Rattle.model.specs.Slots.{Slots, Numbered, ceiling}
 use Rattle.model.specs.Stream as model
@@ -20,7 +21,7 @@ use Rattle.records.specs.declared.StreamState.{StreamState}
 use Rattle.records.specs.declared.StreamState.the-variants as state
 use Rattle.records.specs.declared.Stream.{Stream}
 use Rattle.records.specs.declared.Totals.{Totals}
-use Rattle.records.specs.Words.{sentOf, isStored, heldOf, isHeld, entryOf}
+use Rattle.records.specs.Words.{sentOf, sentWord, sentTime, isStored, heldOf, isHeld, entryOf}
 use Rattle.records.specs.Table.{table}
 use Rattle.records.specs.Cut.{cut, outgoingSlot, incomingSlot, headerSlot}
 
@@ -38,6 +39,10 @@ packetOf store i p = record { bytes = cut outgoingSlot store i (p .length); mark
 
 abbrev pub sentIn : List ℕ → ℕ → Sent
 sentIn words i = sentOf (getD words i 0) (getD words (32 + i) 0)
+
+-- the words after packet p was put into the slot of number n
+abbrev pub withSent : List ℕ → ℕ → Sent → List ℕ
+withSent words n p = set (set words (n % ceiling) (sentWord p)) (32 + n % ceiling) (sentTime p)
 
 abbrev pub inSlot : (i n : ℕ) → Bool
 inSlot i n = eqb (n % ceiling) i
@@ -77,6 +82,10 @@ seenEntries headers place [] = []
 seenEntries headers place (w ∷ ws) =
     cond (entryOf w .state) (model.state (cut headerSlot headers place 20) ∷ seenEntries headers (suc place) ws)
     (model.packet (entryOf w .number) (entryOf w .length) ∷ seenEntries headers place ws)
+
+-- the state packets among some words
+abbrev pub stateWords : List ℕ → ℕ
+stateWords words = states (seenEntries [] 0 words)
 
 unfoldable pub seenQueue : Queue → List ℕ → Bytes → model.Queue
 seenQueue q words headers = record { entries = seenEntries headers (q .gone) (entryWords q words); left = q .left }
@@ -149,7 +158,15 @@ formedQueue q words =
     leb (q .count) 128
     && (leb (q .left) (q .count)
     && (leb (q .states) 64
-    && (eqb (q .states) (q .gone + states (seenEntries [] 0 (entryWords q words))) && (ltb 0 (q .left) || eqb (q .gone) 0))))
+    && (eqb (q .states) (q .gone + stateWords (entryWords q words)) && (ltb 0 (q .left) || eqb (q .gone) 0))))
+
+-- the same as facts
+pub record QueueFormed (q : Queue) (words : List ℕ) : Type 0 where
+  pub count : q .count ≤ 128
+  pub left : q .left ≤ q .count
+  pub states : q .states ≤ 64
+  pub places : q .states ≡ q .gone + stateWords (entryWords q words)
+  pub gone : q .left ≡ 0 → q .gone ≡ 0
 
 unfoldable pub formed : Stream → List ℕ → Bool
 formed s queue = formedReceiver (s .receiver) && formedQueue (s .queue) queue

@@ -1,5 +1,5 @@
 -- Packets and queue entries as words of lent arrays: what a word says, and the word of a packet. Only this file and src/words.rt know
--- the bits; that each undoes the other is in proofs/Words.antt. Assumes nothing.
+-- the bits; that each undoes the other is in proofs/WordLaws.antt. Assumes nothing.
 use Prim.Native.Nat.{ℕ, _+_, _-_, _*_, _/_, _%_, _^_}
 use mathlib.Core.Bool.{Bool, cond, _&&_, not}
 use lib.Dec.{eqb}

@@ -1,10 +1,13 @@
 // The records of a stream: its numbers by value, in the groups of the model; its packets and its queue as words of lent arrays; the
 // bytes in three lent stores. specs/Seen.antt says what they mean.
+mod lengths;
 mod opening;
 mod words;
 
 use error::Outcome;
 use error::UdxError;
+pub use lengths::least;
+pub use lengths::word_count;
 pub use opening::Opened;
 pub use opening::open;
 use rtt::Nanos;

@@ -1,6 +1,5 @@
 // Opening a stream (UdxStream::connect).
 ghost use mathlib.Core.Path.{_≡_};
-ghost use lib.ListN.{length};
 ghost use Rattle.records.specs.Open.{Opens, freshTiming, freshStream, freshTotals, refusedOpen};
 use crate::Clocks;
 use crate::Deadline;

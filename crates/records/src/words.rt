@@ -8,9 +8,8 @@
 //
 // A packet's slot is its number mod 32. A word with another number, or with 0 where the length stands, is no packet.
 ghost use mathlib.Core.Path.{_≡_};
-ghost use mathlib.Core.Bool.{cond, _&&_, not};
+ghost use mathlib.Core.Bool.{cond};
 ghost use Prim.Native.Nat.{_+_, _-_, _*_, _/_, _%_, _<_, _≤_};
-ghost use lib.Dec.{eqb};
 ghost use lib.ListN.{set, getD};
 ghost use Rattle.records.specs.Words.{
   sentOf,

@@ -1,7 +1,7 @@
 // Sending: the pieces of a write are stored and queued one after another while they may go (poll_write over send_data_packet).
 ghost use mathlib.Core.Path.{_≡_};
 ghost use mathlib.Core.List.{_++_};
-ghost use Prim.Native.Nat.{_+_, _-_, _*_, _%_, _<_, _≤_, min};
+ghost use Prim.Native.Nat.{_+_, _-_, _*_, _%_, _<_, _≤_};
 ghost use lib.Dec.{leb};
 ghost use lib.ListN.{length};
 ghost use Rattle.packet.specs.Header.{headerBytes};
@@ -19,6 +19,8 @@ use records::Queue;
 use records::Sender;
 use records::Sent;
 use records::Totals;
+use records::least;
+use records::word_count;
 use rtt::Nanos;
 
 // What a sent piece changes besides the words and the bytes.
@@ -182,21 +184,6 @@ fn send_data_packet(
     }
 }
 
-// The smaller of two sizes.
-fn least(a: usize, b: usize) -> usize
-    ensures { λ r. ⌜ r ≡ min a b ⌝ }
-{
-    if a < b { a } else { b }
-}
-
-// The words behind the references are as many as the types say: a list in a contract has any length, and a slice tells its own.
-fn whole(sent: &[u64; 64], queue: &[u64; 128])
-    ensures { λ _. ⌜ (length (now (sent .entry)) ≡ 64) × (length (now (queue .entry)) ≡ 128) ⌝ }
-{
-    let s = &sent[..];
-    let q = &queue[..];
-}
-
 // poll_write's loop: pieces go until one does not or no byte is left.
 pub fn write_pieces(
     o: Outbox,
@@ -210,7 +197,8 @@ pub fn write_pieces(
     requires { ⌜ Ready o (length (now outgoing)) ⌝ }
     ensures { λ r. ⌜ Writes o remote ack (now (bytes .entry)) (now (sent .entry)) (now (queue .entry)) (now (outgoing .entry)) r (now (sent .exit)) (now (queue .exit)) (now (outgoing .exit)) ⌝ }
 {
-    whole(sent, queue);
+    word_count(sent);
+    word_count(queue);
     let mut out = o;
     let mut at: usize = 0;
     while at < bytes.len() {

@@ -5,21 +5,21 @@ use Prim.Native.Nat.{ℕ, zero, suc, _≤_, _<_, min, zero-le}
 use native.Mathlib.Decide.{ℕ-discrete}
 use native.Mathlib.Omega.{arith}
 use mathlib.Core.Path.{_≡_, refl, sym, ap, ap₂, _∙_}
-use mathlib.Core.List.{List, [], _∷_, _++_, append-nil}
+use mathlib.Core.List.{List, [], _∷_, _++_}
 use mathlib.Core.Option.{Option, none, some}
 use mathlib.Core.Bool.{true, cond, _&&_}
 use lib.Dec.{leb, eqb}
 use borrow.Author.Tests.{eqb-true, leb-true, lt-ltb}
-use lib.ListN.{length, take, length-append}
-use lib.Seq.{take-at, drop-at}
-use Rattle.model.specs.Lists.{Bytes, joined, cut, on}
+use lib.ListN.{length, take}
+use Rattle.model.specs.Lists.{Bytes, joined, on}
 use Rattle.model.specs.Slots.{Slots, ceiling, get, insert}
 use Rattle.model.specs.Stream.{Packet, Entry, state, packet, End}
 use Rattle.model.specs.Rules.{every, entryTest}
-use Rattle.model.specs.Driving.{marked, entryLength, headLength, sameLength, batch, takenMarks, Taken, takeLoop, segmentOf, whole, datagramsOf, firstThere, look}
-use Rattle.model.proofs.Lists.{All, by-test}
+use Rattle.model.specs.Driving.{marked, entryLength, headLength, sameLength, batch, takenMarks, Taken, takeLoop, segmentOf, datagramsOf, firstThere, look}
+use Rattle.model.proofs.Lists.{All, all-map, by-test}
 use Rattle.model.proofs.Slots.{no-some, insert-same, insert-other, insert-none, insert-length, one-number}
 use Rattle.model.proofs.Gate.{and-left, and-right}
+use Rattle.model.proofs.LineTake.{cut-joined, count-joined, whole-joined}
 use Rattle.records.specs.Seen.{seenQueue, seen}
 use Rattle.records.proofs.SeenOutgoing.{outgoing-length}
 use Rattle.taking.specs.Take.{sendEntry, sendLoop}
@@ -27,29 +27,6 @@ use Rattle.taking.specs.Batches.{thereOf, firstOf, BatchesCut, RecordsCu
 use Rattle.taking.proofs.RulesTake.{rules-read}
 use Rattle.taking.proofs.TakeSome.{sentEntry}
 use Rattle.taking.proofs.TakeModel.{loop-sends}
-
--- joining and cutting
-
-cut-one : (k l : ℕ) (d more : Bytes) → length d ≡ l → 0 < l → cut (suc k) l (d ++ more) ≡ d ∷ cut k l more
-cut-one k l [] more e p = absurd (omega arith)
-cut-one k l (x ∷ d) more e p = ap₂ {C = List Bytes} (λ (u : Bytes) (v : Bytes). u ∷ cut k l v) (take-at (x ∷ d) more l e) (drop-at (x ∷ d) more l e)
-
-cut-joined : (l : ℕ) → 0 < l → (ds : List Bytes) → All (λ d. length d ≡ l) ds → (k : ℕ) → length ds ≤ k → cut k l (joined ds) ≡ ds
-cut-joined l p [] a zero b = refl
-cut-joined l p [] a (suc k) b = refl
-cut-joined l p (d ∷ ds) a zero b = absurd (omega arith)
-cut-joined l p (d ∷ ds) a (suc k) b = cut-one k l d (joined ds) (a .0) p ∙ ap (λ (z : List Bytes). d ∷ z) (cut-joined l p ds (a .1) k (omega arith))
-
--- no more datagrams than bytes
-count-joined : (l : ℕ) → 0 < l → (ds : List Bytes) → All (λ d. length d ≡ l) ds → length ds ≤ length (joined ds)
-count-joined l p [] a = zero-le
-count-joined l p (d ∷ ds) a = let u = a .0 in let v = count-joined l p ds (a .1) in rw length-append (omega arith)
-
-whole-joined : (l : ℕ) → 0 < l → (ds : List Bytes) → length ds ≤ 1 → All (λ d. length d ≡ l) ds → whole (joined ds) ≡ ds
-whole-joined l p [] b a = refl
-whole-joined l p ([] ∷ []) b a = let u = a .0 in absurd (omega arith)
-whole-joined l p ((x ∷ d) ∷ []) b a = ap (λ (z : Bytes). (x ∷ z) ∷ []) (append-nil d)
-whole-joined l p (d ∷ (c ∷ ds)) b a = absurd (omega arith)
 
 -- a mark keeps the bytes
 
@@ -167,7 +144,7 @@ pieces s m (x ∷ q) a = go (sameLength m (entryLength x) (x ∷ q)) (there-leng
         let p = filled s x (a .0) in
         let ds = thereOf s (take k (x ∷ q)) in
         by-test (λ (o : Option ℕ). datagramsOf o (joined ds) ≡ ds) (eqb k 1) none (some (entryLength x))
-        (λ z. whole-joined (entryLength x) p ds (let u = there-count s k (x ∷ q) in let v = eqb-true k 1 z in omega arith) b)
+        (λ z. whole-joined ds (let u = there-count s k (x ∷ q) in let v = eqb-true k 1 z in omega arith) (all-map (λ d w. let v = p in omega arith) ds b))
         (λ z. cut-joined (entryLength x) p ds b (length (joined ds)) (count-joined (entryLength x) p ds b))
 
 -- the first of them

@@ -11,8 +11,8 @@ use Rattle.model.specs.Lists.{Bytes}
 use Rattle.model.specs.Stream as model
 use Rattle.records.specs.declared.Queue.{Queue}
 use Rattle.records.specs.Words.{entryOf}
-use Rattle.records.specs.Seen.{seenEntries, entryWords}
-use Rattle.records.proofs.SeenQueue.{stateWords, words-append, entries-drop, words-left}
+use Rattle.records.specs.Seen.{seenEntries, entryWords, stateWords}
+use Rattle.records.proofs.SeenQueue.{words-append, entries-drop, words-left}
 use Rattle.taking.specs.Take.{entrySeen}
 
 pub left-word : (q : Queue) (queue : List ℕ) (i : ℕ) → i < q .left → q .left ≤ q .count → getD queue (q .count - q .left + i) 0 ≡ getD (entryWords q queue) i 0

@@ -20,9 +20,8 @@ use Rattle.records.specs.declared.Sender.{Sender}
 use Rattle.records.specs.declared.Queue.{Queue}
 use Rattle.records.specs.Words.{entryOf}
 use Rattle.records.specs.Cut.{cut, outgoingSlot, headerSlot}
-use Rattle.records.specs.Seen.{sentIn, seenEntries, seenQueue, entryWords, seen}
-use Rattle.records.proofs.SeenQueue.{stateWords, left-length, entries-length}
-use Rattle.records.proofs.FormedQueue.{QueueFormed}
+use Rattle.records.specs.Seen.{sentIn, seenEntries, seenQueue, entryWords, seen, stateWords, QueueFormed}
+use Rattle.records.proofs.SeenQueue.{left-length, entries-length}
 use Rattle.taking.specs.declared.Next.{Next}
 use Rattle.taking.specs.Take.{Stored, Kept, storeSeen, isThere, nextSeen, nextBytes, Finds, Shows}
 use Rattle.taking.proofs.LeftWords.{entry-at, states-next, states-less}

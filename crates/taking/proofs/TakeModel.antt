@@ -19,8 +19,8 @@ use Rattle.records.specs.declared.Sender.{Sender}
 use Rattle.records.specs.declared.Stream.{Stream}
 use Rattle.records.specs.declared.Totals.{Totals}
 use Rattle.records.specs.Put.{put}
-use Rattle.records.specs.Seen.{seenOutgoing, seenQueue, entryWords, Lent, seen}
-use Rattle.records.proofs.SeenQueue.{stateWords, queue-take, queue-last}
+use Rattle.records.specs.Seen.{seenOutgoing, seenQueue, entryWords, Lent, seen, stateWords}
+use Rattle.records.proofs.SeenQueue.{queue-take, queue-last}
 use Rattle.records.proofs.FormedQueue.{formed-take, formed-empty}
 use Rattle.taking.specs.declared.Progress.{Progress}
 use Rattle.taking.specs.Take.{Lends, Sends, sendEntry, sendLoop, storeSeen, Written, takenQueue, takenStream, takenLent, Took, Takes, TakesQueue}

@@ -21,10 +21,10 @@ use Rattle.records.specs.declared.Sender.{Sender}
 use Rattle.records.specs.Words.{sentOf, sentWord, sentTime, isStored}
 use Rattle.records.specs.Cut.{cut, outgoingSlot, headerSlot}
 use Rattle.records.specs.Put.{put}
-use Rattle.records.specs.Seen.{packetOf, sentIn}
+use Rattle.records.specs.Seen.{packetOf, sentIn, withSent}
 use Rattle.records.proofs.WordLaws.{sent-back, stored-number, stored-full}
 use Rattle.records.proofs.Cut.{out-is, head-is, cut-length, cut-whole}
-use Rattle.records.proofs.SeenOutgoing.{withSent, get-outgoing, get-settled, get-unsent, remark-outgoing}
+use Rattle.records.proofs.SeenOutgoing.{get-outgoing, get-settled, get-unsent, remark-outgoing}
 use Rattle.taking.specs.declared.Progress.{Progress}
 use Rattle.taking.specs.Take.{Within, takenPacket, sendEntry, storeSeen, isThere, Written, EntryKept, TakesState, TakesPacket, TakesEntry}
 

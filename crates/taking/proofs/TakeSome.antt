@@ -22,11 +22,11 @@ use Rattle.records.specs.declared.Queue.{Queue}
 use Rattle.records.specs.Words.{entryOf}
 use Rattle.records.specs.Cut.{outgoingSlot}
 use Rattle.records.specs.Put.{put}
-use Rattle.records.specs.Seen.{sentIn, seenEntries, entryWords}
+use Rattle.records.specs.Seen.{sentIn, seenEntries, entryWords, stateWords}
 use Rattle.records.proofs.Cut.{cut-length}
 use Rattle.records.proofs.Put.{put-put}
 use Rattle.records.proofs.SeenOutgoing.{outgoing-length}
-use Rattle.records.proofs.SeenQueue.{stateWords, left-length}
+use Rattle.records.proofs.SeenQueue.{left-length}
 use Rattle.taking.specs.declared.Progress.{Progress}
 use Rattle.taking.specs.Take.{Stored, Sends, sendEntry, sendLoop, entrySeen, storeSeen, isThere, Written, EntryKept, TakesEntry, Takeable}
 use Rattle.taking.proofs.LeftWords.{entry-at, states-next, states-less}

@@ -21,10 +21,7 @@ use Rattle.records.specs.declared.Totals.{Totals}
 use Rattle.records.specs.Words.{isStored}
 use Rattle.records.specs.Cut.{cut, outgoingSlot, headerSlot}
 use Rattle.records.specs.Put.{put}
-use Rattle.records.specs.Seen.{sentIn, seenOutgoing, seenQueue, entryWords, Lent, seen}
-use Rattle.records.proofs.SeenOutgoing.{withSent}
-use Rattle.records.proofs.SeenQueue.{stateWords}
-use Rattle.records.proofs.FormedQueue.{QueueFormed}
+use Rattle.records.specs.Seen.{sentIn, seenOutgoing, seenQueue, entryWords, Lent, seen, withSent, stateWords, QueueFormed}
 use Rattle.rtt.specs.Estimate.{nanos}
 use Rattle.taking.specs.declared.Handed.{Handed}
 use Rattle.taking.specs.declared.Progress.{Progress}

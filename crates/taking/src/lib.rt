@@ -2,12 +2,11 @@
 // the next datagram.
 ghost use mathlib.Core.Path.{_≡_};
 ghost use mathlib.Core.Bool.{true, _&&_};
-ghost use Prim.Native.Nat.{_+_, _-_, _<_, _≤_, min};
+ghost use Prim.Native.Nat.{_+_, _-_, _<_, _≤_};
 ghost use lib.Dec.{leb, ltb};
 ghost use lib.ListN.{length, getD};
 ghost use Rattle.records.specs.Words.{isStored, entryOf};
-ghost use Rattle.records.specs.Seen.{entryWords};
-ghost use Rattle.records.proofs.FormedQueue.{QueueFormed};
+ghost use Rattle.records.specs.Seen.{entryWords, QueueFormed};
 ghost use Rattle.taking.specs.Take.{
   entrySize,
   Batched,
@@ -34,24 +33,9 @@ use records::Entry;
 use records::Queue;
 use records::Sender;
 use records::Sent;
+use records::least;
+use records::word_count;
 use rtt::Nanos;
-
-// lengths
-
-// Of an array behind a reference the proofs do not know the length; where it is asked, they learn it.
-fn queue_length(queue: &[u64; 128]) -> usize
-    ensures { λ r. ⌜ length (now (queue .entry)) ≡ 128 ⌝ }
-{
-    let words = &queue[..];
-    words.len()
-}
-
-fn sent_length(sent: &[u64; 64]) -> usize
-    ensures { λ r. ⌜ length (now (sent .entry)) ≡ 64 ⌝ }
-{
-    let words = &sent[..];
-    words.len()
-}
 
 // the next batch
 
@@ -75,19 +59,13 @@ fn left_entry(q: Queue, queue: &[u64; 128], i: u32) -> Entry
     records::get_entry(queue, (first + i) as usize)
 }
 
-fn least(a: u32, b: u32) -> u32
-    ensures { λ r. ⌜ r ≡ min a b ⌝ }
-{
-    if a < b { a } else { b }
-}
-
 // How many entries the next batch has: those of the first one's length in a row, at most the ceiling and at most what is left.
 fn batch(q: Queue, segments: u8, queue: &[u64; 128]) -> u32
     requires { ⌜ (q .left ≤ q .count) × (q .count ≤ 128) × (1 ≤ q .left) ⌝ }
     ensures { λ r. ⌜ Batched q segments (now (queue .entry)) r ⌝ }
 {
-    queue_length(queue);
-    let most = least(segments as u32, q.left);
+    word_count(queue);
+    let most = least(segments as usize, q.left as usize) as u32;
     let size = entry_size(left_entry(q, queue, 0));
     let mut k: u32 = 0;
     while k < most {
@@ -104,7 +82,7 @@ fn head_length(q: Queue, queue: &[u64; 128]) -> u32
     requires { ⌜ (q .left ≤ q .count) × (q .count ≤ 128) × (1 ≤ q .left) ⌝ }
     ensures { λ r. ⌜ Heads q (now (queue .entry)) r ⌝ }
 {
-    queue_length(queue);
+    word_count(queue);
     entry_size(left_entry(q, queue, 0))
 }
 
@@ -221,8 +199,8 @@ fn to_transmit(
     requires { ⌜ Takeable q s k (drive .0) (now sent) (now queue) (now outgoing) (now headers) (now buf) ⌝ }
     ensures { λ r. ⌜ Takes q s k (drive .0) (now (sent .entry)) (now (queue .entry)) (now (outgoing .entry)) (now (headers .entry)) (now (buf .entry)) r (now (sent .exit)) (now (buf .exit)) ⌝ }
 {
-    queue_length(queue);
-    sent_length(sent);
+    word_count(queue);
+    word_count(sent);
     let mut p = Progress {
         at: 0,
         place: q.gone,
@@ -318,7 +296,7 @@ fn next_entry(q: Queue, s: Sender, sent: &[u64; 64], queue: &[u64; 128]) -> Next
     requires { ⌜ QueueFormed q (now queue) × Stored s (now sent) 7 ⌝ }
     ensures { λ r. ⌜ Finds q s (now (sent .entry)) (now (queue .entry)) r ⌝ }
 {
-    queue_length(queue);
+    word_count(queue);
     let mut n: u32 = 0;
     while n < q.left {
         let x = left_entry(q, queue, n);

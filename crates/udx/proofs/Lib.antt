@@ -6,3 +6,5 @@ pub mod Resting
 pub mod TakeLaws
 pub mod Unbroken
 pub mod WriteLaws
+pub mod EarlyLaws
+pub mod DeliverLaws

@@ -9,9 +9,9 @@ use Rattle.model.specs.Rules.{rules}
 use Rattle.model.proofs.Gate.{and-left, and-right}
 use Rattle.records.specs.declared.Stream.{Stream}
 use Rattle.records.specs.declared.Totals.{Totals}
-use Rattle.records.specs.Seen.{Lent, seen, formed, formedReceiver, formedQueue}
+use Rattle.records.specs.Seen.{Lent, seen, formed, formedReceiver, formedQueue, QueueFormed}
 use Rattle.records.specs.Open.{storesTest}
-use Rattle.records.proofs.FormedQueue.{QueueFormed, queue-says}
+use Rattle.records.proofs.FormedQueue.{queue-says}
 use Rattle.rules.specs.Ok.{okStream}
 use Rattle.rules.proofs.Seen.{ok-says}
 use Rattle.udx.specs.Agree.{laidOut}

@@ -1,5 +1,6 @@
 pub mod Agree
 pub mod Close
+pub mod Deliver
 pub mod Look
 pub mod Read
 pub mod Refusals

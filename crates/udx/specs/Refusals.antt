@@ -1,14 +1,16 @@
 -- Refusals on the records, in 01's order. Assumes nothing.
-use Prim.Native.Nat.{ℕ}
+use Prim.Native.Nat.{ℕ, _+_, _^_}
 use mathlib.Core.Option.{Option, none, some}
 use mathlib.Core.Bool.{Bool, cond, _&&_, _||_, not}
-use lib.Dec.{ltb, leb}
+use lib.Dec.{ltb, leb, eqb}
 use Rattle.error.specs.declared.UdxError.{UdxError}
 use Rattle.error.specs.declared.UdxError.the-variants as error
 use Rattle.error.specs.declared.Refusal.{Refusal}
 use Rattle.error.specs.declared.Refusal.the-variants as refusal
 use Rattle.error.specs.declared.Verdict.{Verdict}
 use Rattle.error.specs.declared.Verdict.the-variants.{Clear, Refused}
+use Rattle.packet.specs.declared.header.Header.{Header}
+use Rattle.packet.specs.Header.{hasType}
 use Rattle.records.specs.declared.Stream.{Stream}
 use Rattle.records.specs.declared.Totals.{Totals}
 use Rattle.records.specs.Seen.{Lent}
@@ -49,3 +51,21 @@ closeVerdict broken s =
     cond broken (Refused refusal.BrokenRecords)
     (cond (s .ending .ended) (Refused refusal.AfterDone)
     (cond (ltb 0 (s .queue .left)) (Refused refusal.BatchesLeft) (cond (leb 63 (s .queue .states)) (Refused refusal.StateQueueFull) Clear)))
+
+-- refusals 1, 4, 5 and 6: those of a drive, and the first ones of a delivery
+unfoldable pub earlyVerdict : (broken : Bool) → Stream → (clock : ℕ) → Verdict
+earlyVerdict broken s clock =
+    cond broken (Refused refusal.BrokenRecords)
+    (cond (leb (2 ^ 60) clock || ltb clock (s .clocks .last .0)) (Refused refusal.BadClock)
+    (cond (s .ending .ended) (Refused refusal.AfterDone) (cond (ltb 0 (s .queue .left)) (Refused refusal.BatchesLeft) Clear)))
+
+-- refusals 8 to 13 of a delivery whose datagram has header h and a payload of so many bytes; with nothing left to take no state packet is
+-- gone, so those queued are all that were
+unfoldable pub headerVerdict : Stream → Header → (payload : ℕ) → Verdict
+headerVerdict s h payload =
+    cond (not (eqb (h .«stream_id») (s .ids .local))) (Refused refusal.OtherStream)
+    (cond (ltb 1_380 payload) (Refused refusal.LongPayload)
+    (cond (ltb (s .sender .seq) (h .ack)) (Refused refusal.AckPastSeq)
+    (cond (hasType 1 (h .typ) && leb 4_294_967_295 (h .seq)) (Refused refusal.SeqEnd)
+    (cond (hasType 1 (h .typ) && leb (s .receiver .«read_cursor» + 32) (h .seq)) (Refused refusal.PastIncoming)
+    (cond (leb 62 (s .queue .states)) (Refused refusal.StateQueueFull) Clear)))))

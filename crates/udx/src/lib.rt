@@ -2,6 +2,7 @@
 // totals after it. specs/Agree.antt says how an answer on the records is the model's.
 mod batches;
 mod closed;
+mod datagrams;
 mod looking;
 mod reading;
 mod refusals;
@@ -10,6 +11,7 @@ mod writing;
 
 pub use batches::take;
 pub use closed::close;
+pub use datagrams::deliver;
 pub use looking::look;
 pub use reading::read;
 pub use step::Step;

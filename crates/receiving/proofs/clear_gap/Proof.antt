@@ -14,7 +14,7 @@ abbrev μ-loop : tie.MeasureT-loop
 μ-loop held₀ top n m₀ held m = n - m
 
 loop-holds : tie.Need-loop-holds Inv-loop μ-loop
-loop-holds c = (clear-starts _ _ (c .sized .ensures), omega arith)
+loop-holds c = (clear-starts _ _ (search needs), omega arith)
 
 loop-again : tie.Need-loop-again Inv-loop μ-loop
 loop-again c = (clear-turn (c .before .before .before .loop .inv .0) (c .clear-held .ensures), omega arith)

@@ -7,13 +7,14 @@ use Rattle.receiving.proofs.insert.Tie as tie
 
 returns : tie.Need-returns
 returns c =
-    inserts (c .before .before .before .before .before .before .before .before .before .before .before .before .before .pre .0)
-    (c .before .before .before .before .before .before .before .before .before .before .before .before .before .pre .1)
-    (c .before .before .before .before .before .before .before .before .clear-gap .ensures)
-    (c .before .before .before .before .before .before .sized .ensures)
+    let g = c .before .before .before .before .before .before .before .before .before in
+    inserts (g .before .before .before .before .before .pre .0)
+    (g .before .before .before .before .before .pre .1)
+    (g .clear-gap .ensures)
+    (search needs)
     (c .before .before .before .before .put-held .ensures)
     (c .before .before .put-payload .ensures)
-    (c .before .before .before .before .before .before .before .before .before .before .top-with .ensures)
+    (g .before .before .top-with .ensures)
 
 pub insert-spec : {M : Type 1} → statement M
 insert-spec =

@@ -16,7 +16,7 @@ abbrev μ-loop : tie.MeasureT-loop
 μ-loop remote ack sent₀ queue₀ outgoing₀ bytes out₀ at₀ sent queue outgoing out at = length bytes - at
 
 loop-holds : tie.Need-loop-holds Inv-loop μ-loop
-loop-holds c = starts _ _ _ _ _ _ _ (c .before .before .before .before .before .pre) (c .whole .ensures .0) (c .whole .ensures .1)
+loop-holds c = starts _ _ _ _ _ _ _ (c .before .before .before .before .before .before .before .before .pre) (search needs) (search needs)
 
 send-data-packet-requires : tie.Need-send-data-packet-requires Inv-loop μ-loop
 send-data-packet-requires c κs =
@@ -44,6 +44,7 @@ write-pieces-spec =
     (tie.spec
     Inv-loop
     μ-loop
+    (λ c κs. search needs)
     (λ c κs. search needs)
     loop-holds
     (λ c. search needs)

@@ -3,6 +3,7 @@
 use Prim.Native.Nat.{ℕ, _+_, _-_, _≤_}
 use native.Mathlib.Omega.{arith}
 use mathlib.Core.Path.{_≡_, ap, sym, _∙_}
+use lib.ListN.{length}
 use borrow.Author.Needs.{needs}
 use Rattle.records.specs.Seen.{entryWords}
 use Rattle.taking.specs.Take.{entrySize, Batched}
@@ -19,14 +20,15 @@ abbrev μ-loop : tie.MeasureT-loop
 
 -- the count k of all that are of one size is the batch
 ends : (c : tie.After-entry-size Inv-loop μ-loop) (k : ℕ)
-    → let a = c .before .before .before .before .args in
+    → let a = c .before .before .before .before .before .before .args in
     k ≤ c .before .before .least .result
     → k ≡ sameFrom (entryWords (a .q) (a .queue .now)) (c .before .before .least .result) (c .entry-size .result) 0
     → Batched (a .q) (a .segments) (a .queue .now) k
 ends c k h e =
-    let a = c .before .before .before .before .args in
-    let p = c .before .before .before .before .pre in
-    let long = c .before .before .before .queue-length .ensures in
+    let b = c .before .before .before .before .before .before in
+    let a = b .args in
+    let p = b .pre in
+    let long : length (a .queue .now) ≡ 128 = search needs in
     batched (a .q) (a .segments) (a .queue .now) (p .2) (p .0) (omega arith) _ _ k (c .before .before .least .ensures)
     (c .entry-size .ensures ∙ ap entrySize (c .before .left-entry .ensures)) h e
 
@@ -59,7 +61,9 @@ batch-spec =
     Inv-loop
     μ-loop
     (λ c κs. search needs)
+    (λ c. search needs)
     (λ c κs. search needs)
+    (λ c. search needs)
     (λ c κs. search needs)
     (λ c κs. search needs)
     loop-holds

@@ -9,7 +9,7 @@ use Rattle.taking.proofs.head_length.Tie as tie
 
 returns : tie.Need-returns
 returns c =
-    let b = c .before .before .before in
+    let b = c .before .before .before .before in
     heads (b .args .q) 0 (b .args .queue .now) (search needs) (search needs) (omega arith) (c .entry-size .result)
     (c .entry-size .ensures ∙ ap entrySize (c .before .left-entry .ensures))
 

@@ -18,13 +18,13 @@ abbrev μ-loop : tie.MeasureT-loop
 
 -- the test is the one that the store is seen by
 found : (c : tie.After-there Inv-loop μ-loop)
-    → let a = c .before .before .before .before .before .before .before .before .args in isThere (a .s) (a .sent .now) (c .before .before .before .left-entry .result .number) ≡ c .there .result
+    → let a = c .before .before .before .before .before .before .before .before .before .args in isThere (a .s) (a .sent .now) (c .before .before .before .left-entry .result .number) ≡ c .there .result
 found c =
-    let a = c .before .before .before .before .before .before .before .before .args in
+    let a = c .before .before .before .before .before .before .before .before .before .args in
     test-there (a .s) (a .sent .now) [] (c .before .before .before .left-entry .result .number) (c .before .get-sent .result) (c .there .result) (c .before .get-sent .ensures) (c .there .ensures)
 
 loop-holds : tie.Need-loop-holds Inv-loop μ-loop
-loop-holds c = starts _ _ _ _ (c .before .pre .0) (c .before .pre .1) (c .queue-length .ensures)
+loop-holds c = starts _ _ _ _ (c .before .before .pre .0) (c .before .before .pre .1) (search needs)
 
 left-entry-requires : tie.Need-left-entry-requires Inv-loop μ-loop
 left-entry-requires c κs = let f = c .before .before .loop .inv .formed in (c .if1 .taken, f .left, f .count)

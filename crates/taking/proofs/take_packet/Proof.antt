@@ -7,7 +7,7 @@ use lib.ListN.{drop}
 use borrow.Author.Needs.{needs}
 use Rattle.records.specs.declared.words.Sent.{Sent}
 use Rattle.records.specs.Put.{put}
-use Rattle.records.proofs.SeenOutgoing.{withSent}
+use Rattle.records.specs.Seen.{withSent}
 use Rattle.taking.proofs.TakeOne.{part-short}
 use Rattle.taking.proofs.take_packet.Statement.{statement}
 use Rattle.taking.proofs.take_packet.Tie as tie

@@ -15,7 +15,7 @@ abbrev μ-loop : tie.MeasureT-loop
 μ-loop q s k drive sent₀ queue outgoing headers buf₀ p₀ i₀ sent buf p i = k - i
 
 loop-holds : tie.Need-loop-holds Inv-loop μ-loop
-loop-holds c = starts _ _ _ _ _ _ _ _ _ (c .before .before .before .before .before .before .pre) (c .before .before .queue-length .ensures) (c .sent-length .ensures)
+loop-holds c = starts _ _ _ _ _ _ _ _ _ (c .before .before .before .before .before .before .before .before .pre) (search needs) (search needs)
 
 left-entry-requires : tie.Need-left-entry-requires Inv-loop μ-loop
 left-entry-requires c κs =

@@ -10,4 +10,4 @@ returns c = c .with-deadline .ensures
 
 pub backed-off-spec : {M : Type 1} → statement M
 backed-off-spec = tie.close (tie.spec
-    (λ c. search needs) (λ c κs. search needs) returns)
+    (λ c. search needs) (λ c. search needs) (λ c κs. search needs) returns)

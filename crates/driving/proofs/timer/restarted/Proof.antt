@@ -1,18 +1,17 @@
--- `driving::timer::restarted` meets its contract: where remote acked moved, the callee's deadline is the model's. Assumes nothing.
-use mathlib.Core.Path.{refl}
+-- `driving::timer::restarted` meets its contract: the deadline that is picked is the model's. Assumes nothing.
+use mathlib.Core.Path.{ap, _∙_}
+use Prim.Native.Nat.{ℕ}
 use borrow.Author.Needs.{needs}
-use Rattle.model.specs.Driving.{restarted}
+use Rattle.driving.specs.Timer.{timingSeen, withDeadline}
+use Rattle.driving.proofs.TimerLaws.{restarted-is}
 use Rattle.driving.proofs.timer.restarted.Statement.{statement}
 use Rattle.driving.proofs.timer.restarted.Tie as tie
 
 returns : tie.Need-returns
-unfolding restarted
-returns c = rw (c .if1 .taken) (c .before .with-deadline .ensures)
-
-returns-2 : tie.Need-returns-2
-unfolding restarted
-returns-2 c = rw (c .if1 .left) refl
+returns c =
+    let t = c .before .before .before .before .args .t in
+    c .with-deadline .ensures ∙ ap (λ (at : ℕ). withDeadline at (timingSeen t)) (c .before .pick .ensures) ∙ restarted-is _ _ t
 
 pub restarted-spec : {M : Type 1} → statement M
 restarted-spec = tie.close (tie.spec
-    (λ c κs. search needs) returns returns-2)
+    (λ c. search needs) (λ c κs. search needs) (λ c κs. search needs) returns)
