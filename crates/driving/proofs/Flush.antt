@@ -21,12 +21,12 @@ use Rattle.records.specs.declared.Sender.{Sender}
 use Rattle.records.specs.declared.Queue.{Queue}
 use Rattle.records.specs.Words.{isStored, entryOf, entryWord}
 use Rattle.records.specs.Cut.{outgoingSlot}
-use Rattle.records.specs.Seen.{packetOf, sentIn, seen, seenSender, seenQueue}
+use Rattle.records.specs.Seen.{packetOf, sentIn, seen, seenSender, seenQueue, QueueFormed, withSent}
 use Rattle.records.proofs.WordLaws.{stored-number, entry-back}
 use Rattle.records.proofs.Cut.{cut-length}
-use Rattle.records.proofs.SeenOutgoing.{withSent, get-outgoing}
+use Rattle.records.proofs.SeenOutgoing.{get-outgoing}
 use Rattle.records.proofs.SeenQueue.{queue-packet}
-use Rattle.records.proofs.FormedQueue.{QueueFormed, formed-packet}
+use Rattle.records.proofs.FormedQueue.{formed-packet}
 use Rattle.driving.specs.Packets.{Stored, withInflight}
 use Rattle.driving.specs.Flushing.{flushedPacket, flushedEntry, withCount, flushedOf, FlushesPacket, Roomy, Flushes}
 use Rattle.driving.proofs.Remark.{transmits-fit, remark-length, remark-seen, stored-again}

@@ -17,9 +17,9 @@ use Rattle.model.specs.Driving.{marked}
 use Rattle.records.specs.declared.words.Sent.{Sent}
 use Rattle.records.specs.declared.Sender.{Sender}
 use Rattle.records.specs.Words.{sentOf, sentWord, sentTime, isStored}
-use Rattle.records.specs.Seen.{marksOf, packetOf, sentIn, seenOutgoing}
+use Rattle.records.specs.Seen.{marksOf, packetOf, sentIn, seenOutgoing, withSent}
 use Rattle.records.proofs.WordLaws.{sent-back, stored-number, stored-full}
-use Rattle.records.proofs.SeenOutgoing.{withSent, remark-outgoing}
+use Rattle.records.proofs.SeenOutgoing.{remark-outgoing}
 use Rattle.driving.specs.Packets.{Within, Stored}
 
 -- what a word says fits a word again

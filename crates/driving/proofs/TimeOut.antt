@@ -21,10 +21,10 @@ use Rattle.records.specs.declared.words.Sent.{Sent}
 use Rattle.records.specs.declared.Sender.{Sender}
 use Rattle.records.specs.Words.{isStored}
 use Rattle.records.specs.Cut.{outgoingSlot}
-use Rattle.records.specs.Seen.{marksOf, packetOf, sentIn, seen, seenSender}
+use Rattle.records.specs.Seen.{marksOf, packetOf, sentIn, seen, seenSender, withSent}
 use Rattle.records.proofs.WordLaws.{stored-number}
 use Rattle.records.proofs.Cut.{cut-length}
-use Rattle.records.proofs.SeenOutgoing.{withSent, get-outgoing}
+use Rattle.records.proofs.SeenOutgoing.{get-outgoing}
 use Rattle.driving.specs.Packets.{Stored, withInflight}
 use Rattle.driving.specs.Timeouts.{lostPacket, TimesOut}
 use Rattle.driving.proofs.Remark.{remark-length, remark-seen, stored-again}

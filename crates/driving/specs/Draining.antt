@@ -12,8 +12,7 @@ use Rattle.records.specs.declared.Sender.{Sender}
 use Rattle.records.specs.declared.Queue.{Queue}
 use Rattle.records.specs.declared.Stream.{Stream}
 use Rattle.records.specs.declared.Totals.{Totals}
-use Rattle.records.specs.Seen.{Lent, seen, seenOutgoing}
-use Rattle.records.proofs.FormedQueue.{QueueFormed}
+use Rattle.records.specs.Seen.{Lent, seen, seenOutgoing, QueueFormed}
 
 -- one of the numbers is stored
 pub record AnyStored (s : Sender) (sent : List ℕ) (r : Bool) : Type 0 where

@@ -12,9 +12,7 @@ use Rattle.records.specs.declared.Queue.{Queue}
 use Rattle.records.specs.declared.Stream.{Stream}
 use Rattle.records.specs.declared.Totals.{Totals}
 use Rattle.records.specs.Words.{entryWord}
-use Rattle.records.specs.Seen.{Lent, seen}
-use Rattle.records.proofs.SeenOutgoing.{withSent}
-use Rattle.records.proofs.FormedQueue.{QueueFormed}
+use Rattle.records.specs.Seen.{Lent, seen, QueueFormed, withSent}
 use Rattle.driving.specs.declared.flushing.Flushed.{Flushed}
 use Rattle.driving.specs.Packets.{Stored, withInflight}
 

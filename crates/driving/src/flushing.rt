@@ -6,12 +6,11 @@ ghost use lib.Dec.{leb};
 ghost use Rattle.records.specs.Words.{isStored};
 ghost use Rattle.driving.specs.Flushing.{flushedPacket, flushedEntry, withCount, flushedOf, FlushesPacket, Roomy, Flushes};
 use crate::inflight::with_inflight;
-use crate::lengths::queue_length;
-use crate::lengths::sent_length;
 use records::Entry;
 use records::Queue;
 use records::Sender;
 use records::Sent;
+use records::word_count;
 
 pub struct Flushed {
     pub sender: Sender,
@@ -105,8 +104,8 @@ pub fn flush_waiting_packets(
     requires { ⌜ Roomy s q (now sent) ⌝ }
     ensures { λ r. ⌜ Flushes s q (now (sent .entry)) (now (queue .entry)) r (now (sent .exit)) (now (queue .exit)) ⌝ }
 {
-    sent_length(sent);
-    queue_length(queue);
+    word_count(sent);
+    word_count(queue);
     let mut inflight = s.inflight;
     let mut count = q.count;
     let mut n = s.remote_acked;

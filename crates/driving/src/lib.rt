@@ -3,7 +3,6 @@
 mod draining;
 mod flushing;
 mod inflight;
-mod lengths;
 mod timeouts;
 mod timer;
 

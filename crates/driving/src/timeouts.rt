@@ -7,10 +7,10 @@ ghost use Rattle.driving.specs.Packets.{Stored};
 ghost use Rattle.driving.specs.Timeouts.{lostPacket, TimesOut};
 use crate::inflight::less;
 use crate::inflight::with_inflight;
-use crate::lengths::sent_length;
 use constants::UDX_MAX_TRANSMITS;
 use records::Sender;
 use records::Sent;
+use records::word_count;
 
 pub struct Passed {
     pub sender: Sender,
@@ -51,7 +51,7 @@ pub fn time_out_packets(s: Sender, sent: &mut [u64; 64]) -> Passed
     requires { ⌜ Stored s (now sent) ⌝ }
     ensures { λ r. ⌜ TimesOut s (now (sent .entry)) r (now (sent .exit)) ⌝ }
 {
-    sent_length(sent);
+    word_count(sent);
     let mut inflight = s.inflight;
     let mut n = s.remote_acked;
     while n < s.seq {

@@ -9,7 +9,7 @@ returns : tie.Need-returns
 returns c =
     let b = c .before .before .before .before .before .before .before .before in
     let z = b .before .before .before in
-    state-queued _ _ _ (z .before .before .before .pre) (z .sized .ensures) _ _ _ _ _ _ _ _ (c .before .pushed-state .ensures) (c .counted-state .ensures)
+    state-queued _ _ _ (z .before .before .before .before .pre) (search needs) _ _ _ _ _ _ _ _ (c .before .pushed-state .ensures) (c .counted-state .ensures)
     (rw (c .before .before .before .state-entry .ensures) at (c .before .before .put-entry .ensures)) (rw (b .before .before .state-header .ensures) at (b .put-header .ensures))
 
 pub send-state-packet-spec : {M : Type 1} → statement M

@@ -16,7 +16,7 @@ abbrev μ-loop : tie.MeasureT-loop
 μ-loop s q sent₀ queue₀ inflight₀ count₀ n₀ sent queue inflight count n = s .seq - n
 
 loop-holds : tie.Need-loop-holds Inv-loop μ-loop
-loop-holds c = starts _ _ _ _ (c .before .before .before .before .pre) (c .before .before .sent-length .ensures) (c .queue-length .ensures)
+loop-holds c = starts _ _ _ _ (c .before .before .before .before .before .before .pre) (search needs) (search needs)
 
 flush-packet-requires : tie.Need-flush-packet-requires Inv-loop μ-loop
 flush-packet-requires c κs =
@@ -26,7 +26,7 @@ add-inflight : tie.Need-add-inflight Inv-loop μ-loop
 add-inflight c =
     let b = c .before .before .before .before .before .before .before .before in
     let l = b .before .before .before .before .loop in
-    let cwnd = b .before .before .before .before .before .before .before .before .before .args .s .cwnd in
+    let cwnd = b .before .before .before .before .before .before .before .before .before .before .before .args .s .cwnd in
     let h : l .inflight + b .get-sent .result .length ≤ cwnd =
     leb-true _ _ (sym (c .before .before .before .before .before .fits2 .ensures) ∙ c .before .before .before .before .if3 .taken) in
     omega arith

@@ -15,7 +15,7 @@ abbrev μ-loop : tie.MeasureT-loop
 μ-loop s sent₀ inflight₀ n₀ sent inflight n = s .seq - n
 
 loop-holds : tie.Need-loop-holds Inv-loop μ-loop
-loop-holds c = starts _ _ (c .before .before .pre) (c .sent-length .ensures)
+loop-holds c = starts _ _ (c .before .before .before .pre) (search needs)
 
 returns : tie.Need-returns Inv-loop μ-loop
 returns c =
