@@ -13,7 +13,7 @@ use Rattle.records.specs.declared.Receiver.{Receiver}
 use Rattle.records.specs.declared.Stream.{Stream}
 use Rattle.records.specs.declared.Totals.{Totals}
 use Rattle.records.specs.Seen.{Lent, seen, formedQueue}
-use Rattle.records.proofs.FormedQueue.{QueueFormed, queue-said, queue-says}
+use Rattle.records.proofs.FormedQueue.{queue-said, queue-says}
 use Rattle.closing.specs.State.{Pushable}
 use Rattle.driving.specs.declared.flushing.Flushed.{Flushed}
 use Rattle.driving.specs.Flushing as waiting

@@ -9,8 +9,7 @@ use Rattle.model.specs.Lists.{Bytes}
 use Rattle.model.specs.Driving as drive
 use Rattle.records.specs.declared.Stream.{Stream}
 use Rattle.records.specs.declared.Totals.{Totals}
-use Rattle.records.specs.Seen.{Lent, seen, formedQueue}
-use Rattle.records.proofs.FormedQueue.{QueueFormed}
+use Rattle.records.specs.Seen.{Lent, seen, formedQueue, QueueFormed}
 use Rattle.driving.specs.Packets.{Stored}
 use Rattle.driving.specs.Flushing.{withQueued}
 use Rattle.polling.specs.declared.Polled.{Polled}

@@ -1,6 +1,5 @@
 // A whole drive (poll_drive).
 ghost use mathlib.Core.Path.{_≡_};
-ghost use lib.ListN.{length};
 ghost use Rattle.polling.specs.Poll.{drivenAt, Drivable, Begun, Flushable, Flushes, Polls};
 use crate::Polled;
 use crate::settling::handle_incoming_max_remote_ack;
@@ -42,13 +41,6 @@ fn before_flush(
     poll_check_timeouts(settled, totals, clock, sent, queue, headers)
 }
 
-// There are 128 words: a proof is told the length of a slice, and not that of an array that is lent.
-fn sized(queue: &[u64; 128])
-    ensures { λ _. ⌜ length (now (queue .entry)) ≡ 128 ⌝ }
-{
-    let words: &[u64] = queue;
-}
-
 // Waiting packets are queued, and what is queued is left to take.
 fn flush(s: Stream, sent: &mut [u64; 64], queue: &mut [u64; 128]) -> Stream
     requires { ⌜ Flushable s (now sent) (now queue) ⌝ }
@@ -57,7 +49,7 @@ fn flush(s: Stream, sent: &mut [u64; 64], queue: &mut [u64; 128]) -> Stream
     let before = s.sender;
     let q = s.queue;
     let f = driving::flush_waiting_packets(before, q, sent, queue);
-    sized(queue);
+    records::word_count(queue);
     let sender = f.sender;
     let queued = f.queue;
     let left = driving::left_to_take(queued);

@@ -6,7 +6,8 @@ use Rattle.polling.proofs.poll.flush.Tie as tie
 
 returns : tie.Need-returns
 returns c =
-    flushes (c .before .before .before .before .before .before .before .before .before .before .pre) (c .before .before .before .before .before .flush-waiting-packets .ensures) (c .before .before .before .sized .ensures) (c .left-to-take .ensures)
+    let f = c .before .before .before .before .before .before in
+    flushes (f .before .before .before .before .before .pre) (f .flush-waiting-packets .ensures) (search needs) (c .left-to-take .ensures)
 
 pub flush-spec : {M : Type 1} → statement M
 flush-spec = tie.close (tie.spec (λ c κs. search needs) (λ c κs. search needs) (λ c κs. search needs) returns)
