@@ -172,7 +172,7 @@ pub extern "C" fn udx_bench_deliver(
         incoming,
         headers,
         datagram,
-        now_at,
+        Nanos(clock),
     );
     let outcome = r.outcome;
     match outcome {

@@ -14,6 +14,7 @@ contracts 𝓤 H A mem run =
     record {
       write = λ κs x r y. (refl, refl);
       deliver = λ κs x r y. (refl, refl);
+      drive = λ κs x r y. (refl, refl);
       take = λ κs x r y. (refl, refl);
       read = λ κs x r y. (refl, refl);
       close = λ κs x r y. (refl, refl);

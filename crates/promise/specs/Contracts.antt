@@ -1,6 +1,6 @@
 -- A call on the records (`Did`, in Runs.antt) is the contract of the exported function, word for word: with the numbers, words, stores and
 -- buffers that it was lent and those that it left, its `ensures` is `Did`, and it requires nothing. So an exported function that says less,
--- or asks for more, is noticed here; `write`, `deliver`, `take`, `read` and `close`, and beside them `look` and `open`. `x` are the parameters,
+-- or asks for more, is noticed here; `write`, `deliver`, `drive`, `take`, `read` and `close`, and beside them `look` and `open`. `x` are the parameters,
 -- `y` what they are at the end, `r` is the result. Statements only: the proof is proofs/Contracts.antt. Assumes nothing.
 use mathlib.Core.Path.{_≡_}
 use mathlib.Core.List.{[]}
@@ -27,11 +27,12 @@ use Rattle.udx.specs.Agree.{lent}
 use Rattle.udx.specs.Look.{shownOf}
 use Rattle.udx.proofs.write as write
 use Rattle.udx.proofs.deliver as deliver
+use Rattle.udx.proofs.drive as drive
 use Rattle.udx.proofs.take as take
 use Rattle.udx.proofs.read as read
 use Rattle.udx.proofs.close as close
 use Rattle.udx.proofs.look as look
-use Rattle.promise.specs.Runs.{Records, Request, toWrite, toDeliver, toTake, toRead, toClose, Event, Did}
+use Rattle.promise.specs.Runs.{Records, Request, toWrite, toDeliver, toDrive, toTake, toRead, toClose, Event, Did}
 
 abbrev pub recordsOf : Stream → Totals → Lent → Records
 recordsOf s t l = record { stream = s; totals = t; lent = l }
@@ -65,6 +66,18 @@ module _ {M : Type 1} (𝓤 : URA M) (H : Heap 𝓤) (A : Atoms 𝓤) (mem : Mem
       × (c .ensures tt r y
       ≡ ⌜ Did (recordsOf s t (lent (now sent) (now held) (now queue) (now outgoing) (now incoming) (now headers)))
       (eventOf (toDeliver (now datagram) (clock .0)) r (lent (now sent′) (now held′) (now queue′) (now outgoing) (now incoming′) (now headers′)) []) ⌝)
+
+  -- udx/src/driven.rt
+  abbrev pub Drive : Type 2
+  Drive =
+      (κs : Lfts 6) (x : Args drive.signature κs) (r : Res drive.signature κs) (y : AtExit drive.ended κs)
+      → let (s, (t, (sent, (held, (queue, (outgoing, (incoming, (headers, (clock, _))))))))) = x in
+      let (_, (_, (sent′, (_, (queue′, (_, (_, (headers′, (_, _))))))))) = y in
+      let c = drive.clauses 𝓤 H A mem run κs x in
+      (c .requires tt ≡ ⊤ₛ)
+      × (c .ensures tt r y
+      ≡ ⌜ Did (recordsOf s t (lent (now sent) (now held) (now queue) (now outgoing) (now incoming) (now headers)))
+      (eventOf (toDrive (clock .0)) r (lent (now sent′) (now held) (now queue′) (now outgoing) (now incoming) (now headers′)) []) ⌝)
 
   -- udx/src/batches.rt
   abbrev pub Take : Type 2
@@ -125,6 +138,7 @@ module _ {M : Type 1} (𝓤 : URA M) (H : Heap 𝓤) (A : Atoms 𝓤) (mem : Mem
   pub record Contracts : Type 2 where
     pub write : Write
     pub deliver : Deliver
+    pub drive : Drive
     pub take : Take
     pub read : Read
     pub close : Close

@@ -24,9 +24,8 @@ use Rattle.model.proofs.Gate.{and-left, and-right}
 use Rattle.records.specs.declared.Ending.{Ending}
 use Rattle.records.specs.declared.Stream.{Stream}
 use Rattle.records.specs.declared.Totals.{Totals}
-use Rattle.records.specs.Seen.{Lent, seen, seenQueue, entryWords, formed, formedQueue, formedReceiver}
+use Rattle.records.specs.Seen.{Lent, seen, seenQueue, formed, formedQueue, formedReceiver}
 use Rattle.records.specs.Open.{storesTest}
-use Rattle.records.proofs.SeenQueue.{entries-states}
 use Rattle.closing.specs.declared.Queued.{Queued}
 use Rattle.closing.specs.State.{seenEnding, Pushable, StateQueued, withState}
 use Rattle.closing.proofs.StatePacket.{terminate-seen}
@@ -35,7 +34,7 @@ use Rattle.udx.specs.Close.{closedStep}
 use Rattle.udx.specs.Refusals.{brokenRecords, verdictOf, closeVerdict}
 use Rattle.udx.proofs.RefusalLaws.{line, clear-line, refusal-one, is-refused, is-clear, acts-on, whyOf, refused-answers}
 use Rattle.udx.proofs.Resting.{ready}
-use Rattle.udx.proofs.Unbroken.{Whole, unbroken, still-laid}
+use Rattle.udx.proofs.Unbroken.{Whole, unbroken, still-laid, places-used}
 
 -- refusals 6 and 13 look at two numbers of the queue; the second matters only where the first is 0
 last-lines : (left k n : ℕ) → (left ≡ 0 → k ≡ n)
@@ -55,14 +54,6 @@ module _ (s : Stream) (t : Totals) (l : Lent) (len : length (l .queue) ≡ 128) 
   -- the state packets queued
   abbrev queued : ℕ
   queued = states (seenQueue (s .queue) (l .queue) (l .headers) .entries)
-
-  places-used : Whole s t l → s .queue .left ≡ 0 → s .queue .states ≡ queued
-  unfolding seenQueue
-  places-used w rest =
-      let p = w .queue .places in
-      let g = w .queue .gone rest in
-      let e = entries-states (l .headers) (s .queue .gone) (entryWords (s .queue) (l .queue)) in
-      omega arith
 
   -- the refusals after the first
   abbrev laterWhy : Option Refusal

@@ -29,9 +29,8 @@ use Rattle.model.proofs.Gate.{and-left, and-right}
 use Rattle.model.proofs.RulesKept.{rules-say}
 use Rattle.records.specs.declared.Stream.{Stream}
 use Rattle.records.specs.declared.Totals.{Totals}
-use Rattle.records.specs.Seen.{Lent, seen, seenQueue, entryWords}
+use Rattle.records.specs.Seen.{Lent, seen, seenQueue}
 use Rattle.records.specs.Open.{storesTest}
-use Rattle.records.proofs.SeenQueue.{entries-states}
 use Rattle.receiving.specs.Absorbing.{Accepted}
 use Rattle.receiving.proofs.LaidLaws.{laid-said, laid-says}
 use Rattle.delivering.specs.declared.Delivered.{Delivered}
@@ -39,14 +38,10 @@ use Rattle.delivering.specs.Handle.{Deliverable, Handled, withDelivered}
 use Rattle.udx.specs.Agree.{laidOut, onRecords, refusedStep, Agrees, Answers}
 use Rattle.udx.specs.Deliver.{deliveredStep}
 use Rattle.udx.specs.Refusals.{brokenRecords, verdictOf, earlyVerdict, headerVerdict}
-use Rattle.udx.proofs.EarlyLaws.{early-says, early-clear}
+use Rattle.udx.proofs.EarlyLaws.{early-says, early-clear, early-clock}
 use Rattle.udx.proofs.RefusalLaws.{line, clear-line, is-refused, is-clear, acts-on, whyOf, refused-answers}
 use Rattle.udx.proofs.Resting.{ready}
-use Rattle.udx.proofs.Unbroken.{Whole, unbroken, still-laid}
-
-or-left : (a b : Bool) → (a || b) ≡ false → a ≡ false
-or-left false b e = refl
-or-left true b e = e
+use Rattle.udx.proofs.Unbroken.{Whole, unbroken, still-laid, places-used}
 
 and-false : (a b : Bool) → a ≡ true → (a && b) ≡ false → b ≡ false
 and-false a b e f = rw e at f
@@ -156,15 +151,6 @@ module _ (s : Stream) (t : Totals) (l : Lent) (len : length (l .queue) ≡ 128) 
       whole : Whole s t l
       whole = unbroken s t l len (early-clear s t l len clock b v is says clear .0)
 
-      -- the state packets queued
-      places-used : s .queue .states ≡ states (seenQueue (s .queue) (l .queue) (l .headers) .entries)
-      unfolding seenQueue
-      places-used =
-          let p = whole .queue .places in
-          let g = whole .queue .gone (early-clear s t l len clock b v is says clear .2) in
-          let k = entries-states (l .headers) (s .queue .gone) (entryWords (s .queue) (l .queue)) in
-          omega arith
-
       module _ (x : Verdict) (heads : x ≡ headerVerdict s h (length datagram - 20)) where
         header-lines : headerVerdict s h (length datagram - 20) ≡ verdictOf (headerWhy h (length datagram - 20) (seen s t l))
         unfolding headerVerdict seen seenQueue
@@ -174,7 +160,7 @@ module _ (s : Stream) (t : Totals) (l : Lent) (len : length (l .queue) ≡ 128) 
             (line (ltb (s .sender .seq) (h .ack)) refusal.AckPastSeq _ _
             (line (hasType 1 (h .typ) && leb 4_294_967_295 (h .seq)) refusal.SeqEnd _ _
             (line (hasType 1 (h .typ) && leb (s .receiver .«read_cursor» + ceiling) (h .seq)) refusal.PastIncoming _ _
-            (full-line (s .queue .states) (states (seenQueue (s .queue) (l .queue) (l .headers) .entries)) places-used)))))
+            (full-line (s .queue .states) (states (seenQueue (s .queue) (l .queue) (l .headers) .entries)) (places-used whole (early-clear s t l len clock b v is says clear .2)))))))
 
         header-found : whyOf (deliverRefusal datagram clock) s t l ≡ headerWhy h (length datagram - 20) (seen s t l)
         header-found =
@@ -204,9 +190,6 @@ module _ (s : Stream) (t : Totals) (l : Lent) (len : length (l .queue) ≡ 128) 
           payload-short : length (drop 20 datagram) ≤ 1_380
           payload-short = rw length-drop (ltb-false 1_380 (length datagram - 20) (tests .0))
 
-          clock-early : clock < 2 ^ 60
-          clock-early = leb-false (2 ^ 60) clock (or-left (leb (2 ^ 60) clock) (ltb clock (s .clocks .last .0)) (early-clear s t l len clock b v is says clear .1))
-
           rest : s .queue .left ≡ 0
           rest = early-clear s t l len clock b v is says clear .2
 
@@ -229,7 +212,7 @@ module _ (s : Stream) (t : Totals) (l : Lent) (len : length (l .queue) ≡ 128) 
               let r = ready s t l len whole rest in
               let states = leb-false 62 (s .queue .states) (tests .3) in
               rw part (record {
-                measured = record { range = k .estimate; early = clock-early; width = k .seq-near };
+                measured = record { range = k .estimate; early = early-clock s t l len clock b v is says clear; width = k .seq-near };
                 short = payload-short;
                 whole = whole .headers;
                 rest = rest;

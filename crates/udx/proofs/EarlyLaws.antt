@@ -1,12 +1,12 @@
 -- The refusals that a drive and a delivery share are the model's list of a drive. Assumes nothing.
-use Prim.Native.Nat.{ℕ, _^_}
+use Prim.Native.Nat.{ℕ, _^_, _<_}
 use mathlib.Core.Path.{_≡_, refl, sym, ap, _∙_}
 use mathlib.Core.Option.{none}
-use mathlib.Core.Bool.{Bool, false, _||_}
+use mathlib.Core.Bool.{Bool, true, false, _||_}
 use native.Mathlib.Omega.{arith}
 use lib.Dec.{ltb, leb}
 use lib.ListN.{length}
-use borrow.Author.Tests.{ltb-false}
+use borrow.Author.Tests.{ltb-false, leb-false}
 use Rattle.error.specs.declared.Refusal.the-variants as refusal
 use Rattle.error.specs.declared.Verdict.{Verdict}
 use Rattle.error.specs.declared.Verdict.the-variants.{Clear}
@@ -16,6 +16,10 @@ use Rattle.records.specs.declared.Totals.{Totals}
 use Rattle.records.specs.Seen.{Lent, seen, seenQueue}
 use Rattle.udx.specs.Refusals.{brokenRecords, verdictOf, earlyVerdict}
 use Rattle.udx.proofs.RefusalLaws.{line, clear-line, refusal-one, whyOf}
+
+or-left : (a b : Bool) → (a || b) ≡ false → a ≡ false
+or-left false b e = refl
+or-left true b e = e
 
 module _ (s : Stream) (t : Totals) (l : Lent) (len : length (l .queue) ≡ 128) (clock : ℕ) where
   early-list : earlyVerdict (brokenRecords s t l) s clock ≡ verdictOf (whyOf (driveRefusal clock) s t l)
@@ -41,3 +45,6 @@ module _ (s : Stream) (t : Totals) (l : Lent) (len : length (l .queue) ≡ 128) 
         let (six, _) = clear-line (ltb 0 (s .queue .left)) refusal.BatchesLeft _ d in
         let z = ltb-false 0 (s .queue .left) six in
         (sym is ∙ one, four, omega arith)
+
+    pub early-clock : v ≡ Clear → clock < 2 ^ 60
+    early-clock clear = leb-false (2 ^ 60) clock (or-left (leb (2 ^ 60) clock) (ltb clock (s .clocks .last .0)) (early-clear clear .1))

@@ -8,3 +8,4 @@ pub mod Unbroken
 pub mod WriteLaws
 pub mod EarlyLaws
 pub mod DeliverLaws
+pub mod DriveLaws

@@ -1,16 +1,18 @@
 -- What refusal 1 leaves: where it does not come, the stores have their lengths, the records are laid out and what is seen of them keeps
 -- the rules. Assumes nothing.
+use native.Mathlib.Omega.{arith}
 use mathlib.Core.Path.{_≡_, refl, sym}
 use mathlib.Core.Bool.{Bool, true, false, _||_, not}
 use lib.Dec.{eqb}
 use lib.ListN.{length}
 use borrow.Author.Tests.{eqb-true}
-use Rattle.model.specs.Rules.{rules}
+use Rattle.model.specs.Rules.{rules, states}
 use Rattle.model.proofs.Gate.{and-left, and-right}
 use Rattle.records.specs.declared.Stream.{Stream}
 use Rattle.records.specs.declared.Totals.{Totals}
-use Rattle.records.specs.Seen.{Lent, seen, formed, formedReceiver, formedQueue, QueueFormed}
+use Rattle.records.specs.Seen.{Lent, seen, seenQueue, entryWords, formed, formedReceiver, formedQueue, QueueFormed}
 use Rattle.records.specs.Open.{storesTest}
+use Rattle.records.proofs.SeenQueue.{entries-states}
 use Rattle.records.proofs.FormedQueue.{queue-says}
 use Rattle.rules.specs.Ok.{okStream}
 use Rattle.rules.proofs.Seen.{ok-says}
@@ -71,3 +73,13 @@ unbroken s t l len h =
       kept = kept;
       ok = ok;
     }
+
+-- with nothing left to take no state packet is gone: the places used are the state packets queued
+pub places-used : {s : Stream} {t : Totals} {l : Lent} → Whole s t l → s .queue .left ≡ 0
+    → s .queue .states ≡ states (seenQueue (s .queue) (l .queue) (l .headers) .entries)
+unfolding seenQueue
+places-used {s} {t} {l} w rest =
+    let p = w .queue .places in
+    let g = w .queue .gone rest in
+    let k = entries-states (l .headers) (s .queue .gone) (entryWords (s .queue) (l .queue)) in
+    omega arith

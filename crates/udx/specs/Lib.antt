@@ -1,6 +1,7 @@
 pub mod Agree
 pub mod Close
 pub mod Deliver
+pub mod Drive
 pub mod Look
 pub mod Read
 pub mod Refusals

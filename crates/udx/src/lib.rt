@@ -16,6 +16,7 @@
 mod batches;
 mod closed;
 mod datagrams;
+mod driven;
 mod looking;
 mod reading;
 mod refusals;
@@ -25,6 +26,7 @@ mod writing;
 pub use batches::take;
 pub use closed::close;
 pub use datagrams::deliver;
+pub use driven::drive;
 pub use looking::look;
 pub use reading::read;
 pub use step::Step;

@@ -1,0 +1,4 @@
+pub mod SettleOne
+pub mod SettleAll
+pub mod TimeOut
+pub mod Whole

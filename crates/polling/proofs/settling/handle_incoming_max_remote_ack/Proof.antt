@@ -1,0 +1,11 @@
+-- `polling::settling::handle_incoming_max_remote_ack` meets its contract: the numbers, then the deadline. Assumes nothing.
+use borrow.Author.Needs.{needs}
+use Rattle.polling.proofs.SettleAll.{settled}
+use Rattle.polling.proofs.settling.handle_incoming_max_remote_ack.Statement.{statement}
+use Rattle.polling.proofs.settling.handle_incoming_max_remote_ack.Tie as tie
+
+returns : tie.Need-returns
+returns c = settled _ _ _ _ (c .before .settle-numbers .ensures) (c .restart .ensures)
+
+pub handle-incoming-max-remote-ack-spec : {M : Type 1} → statement M
+handle-incoming-max-remote-ack-spec = tie.close (tie.spec (λ c κs. search needs) (λ c κs. search needs) returns)

@@ -1,0 +1,14 @@
+-- `polling::timeouts::consider_lost` meets its contract: the timer, the window, and the pass over the packets. Assumes nothing.
+use borrow.Author.Needs.{needs}
+use Rattle.polling.proofs.TimeOut.{shrunk-stored, loses}
+use Rattle.polling.proofs.timeouts.consider_lost.Statement.{statement}
+use Rattle.polling.proofs.timeouts.consider_lost.Tie as tie
+
+time-out-packets-requires : tie.Need-time-out-packets-requires
+time-out-packets-requires c κs = shrunk-stored (c .before .before .before .before .before .pre) (c .before .shrunk .ensures)
+
+returns : tie.Need-returns
+returns c = loses _ _ _ _ _ _ _ (c .before .before .before .before .backed-off .ensures) (c .before .before .before .shrunk .ensures) (c .before .time-out-packets .ensures)
+
+pub consider-lost-spec : {M : Type 1} → statement M
+consider-lost-spec = tie.close (tie.spec (λ c κs. search needs) (λ c κs. search needs) time-out-packets-requires returns)

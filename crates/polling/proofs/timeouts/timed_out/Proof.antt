@@ -1,0 +1,11 @@
+-- `polling::timeouts::timed_out` meets its contract: the law of `terminate`. Assumes nothing.
+use borrow.Author.Needs.{needs}
+use Rattle.polling.proofs.TimeOut.{times-out}
+use Rattle.polling.proofs.timeouts.timed_out.Statement.{statement}
+use Rattle.polling.proofs.timeouts.timed_out.Tie as tie
+
+returns : tie.Need-returns
+returns c = times-out _ _ _ _ (c .before .before .before .before .before .before .before .before .terminated .result) (c .before .before .before .before .before .before .before .before .terminated .ensures) (c .before .before .before .before .send-state-packet .ensures)
+
+pub timed-out-spec : {M : Type 1} → statement M
+timed-out-spec = tie.close (tie.spec (λ c κs. search needs) (λ c κs. search needs) (λ c. search needs) returns)
