@@ -24,7 +24,7 @@ static void fill(unsigned stored, unsigned payload) {
     memset(fresh, 0, sizeof fresh);
     for (unsigned n = 0; n < stored; n++) {
         fresh[n] = (uint64_t)n << 32 | length << 6;
-        queue[n] = (uint64_t)n << 32 | length << 1;
+        queue[n] = (uint64_t)n << 32 | length << 6;
     }
     uint64_t values[24] = {stored, 0, 0, stored * length, 100000, 0, 0, 0, stored, stored, 0, 0,
                            0, 0, 1000000000, 1000000000, 9, 9, 10, stored, (uint64_t)stored * payload};

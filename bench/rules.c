@@ -20,11 +20,11 @@ static void fill(unsigned stored, unsigned holding, unsigned states) {
         uint64_t n = 100 + i, length = 1400;
         sent[n % 32] = n << 32 | length << 6 | 1 << 1;
         sent[32 + n % 32] = 6;
-        queue[states + i] = n << 32 | length << 1;
+        queue[states + i] = n << 32 | length << 6;
         inflight += length;
     }
     for (unsigned i = 0; i < states; i++)
-        queue[i] = 41;
+        queue[i] = 20 << 6 | 1;
     for (unsigned i = 0; i < holding; i++) {
         uint64_t n = 201 + i;
         held[n % 32] = n << 32 | (uint64_t)1381 << 16;

@@ -97,7 +97,7 @@ def held_word(n, p):
 
 
 def entry_word(x):
-    return 20 * 2 + 1 if x == "state" else x[0] * 2**32 + x[1] * 2
+    return 20 * 64 + 1 if x == "state" else x[0] * 2**32 + x[1] * 64
 
 
 def words(r):

@@ -1,4 +1,5 @@
 // What bench/ times, as C functions on plain numbers. The order of `numbers` is that of `stream` and `totals` below.
+use error::Outcome;
 use error::UdxError;
 use records::Clocks;
 use records::Deadline;
@@ -143,5 +144,60 @@ pub extern "C" fn udx_bench_take(
     let s = stream(numbers);
     let t = totals(numbers);
     let r = udx::take(s, t, sent, held, queue, outgoing, incoming, headers, buf);
+    r.count
+}
+
+// One delivery: 1 where it is accepted.
+#[no_mangle]
+pub extern "C" fn udx_bench_deliver(
+    numbers: &[u64; 24],
+    sent: &mut [u64; 64],
+    held: &mut [u64; 32],
+    queue: &mut [u64; 128],
+    outgoing: &[u8],
+    incoming: &mut [u8],
+    headers: &mut [u8],
+    datagram: &[u8],
+    clock: u64,
+) -> u32 {
+    let s = stream(numbers);
+    let t = totals(numbers);
+    let r = udx::deliver(
+        s,
+        t,
+        sent,
+        held,
+        queue,
+        outgoing,
+        incoming,
+        headers,
+        datagram,
+        now_at,
+    );
+    let outcome = r.outcome;
+    match outcome {
+        Outcome::Ready => 1,
+        Outcome::Waiting => 0,
+        Outcome::Done => 0,
+        Outcome::Nothing => 0,
+        Outcome::Refused(why) => 0,
+    }
+}
+
+// One read: the bytes put.
+#[no_mangle]
+pub extern "C" fn udx_bench_read(
+    numbers: &[u64; 24],
+    sent: &[u64; 64],
+    held: &mut [u64; 32],
+    queue: &[u64; 128],
+    outgoing: &[u8],
+    incoming: &[u8],
+    headers: &[u8],
+    buf: &mut [u8],
+) -> usize {
+    let s = stream(numbers);
+    let t = totals(numbers);
+    let r = udx::read(s, t, sent, held, queue, outgoing, incoming, headers, buf);
     r.count
 }

@@ -14,4 +14,4 @@ use Rattle.model.specs.Examples.{Examples}
 
 pub examples : Examples
 unfolding headerBytes noSlots get insert remove fresh gate rules countSent countState goes writeLoop writeRefusal write closeRefusal close measured countAcked ackNumber ackNumbers ackBlocks countReceived countData onSack onEnd advance absorb onData handleIncoming deliverRefusal deliver readLoop readNext readRefusal read settleLoop restarted settle due backedOff timeOutPacket timeOutLoop checkTimeouts fits flushLoop flush anyStored drained driveRefusal pollDrive drive sameLength batch takeEntry takeLoop takeRefusal take sampled grown halved
-examples = record { session-sender = refl; session-receiver = refl; acknowledged = refl; settled-once = refl; resent-no-sample = refl }
+examples = record { session-sender = refl; session-receiver = refl; acknowledged = refl; settled-once = refl; resent-no-sample = refl; never-acked = refl; third-goes = refl; fourth-fails = refl }

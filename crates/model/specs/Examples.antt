@@ -1,11 +1,13 @@
--- Examples computed over the definitions: 01's example session, a packet's whole way with its ack's way back, and a packet that
--- is resent. Statements; all of them are computed in proofs/Examples.antt. Assumes nothing.
+-- Examples computed over the definitions: 01's example session, a packet's whole way with its ack's way back, a packet that is
+-- resent, and one that is never acknowledged. Statements; all of them are computed in proofs/Examples.antt. Assumes nothing.
 use Prim.Native.Nat.{ℕ}
 use mathlib.Core.Path.{_≡_}
 use mathlib.Core.List.{List, [], _∷_}
+use Rattle.error.specs.declared.UdxError.the-variants as error
 use Rattle.error.specs.declared.Outcome.{Outcome}
 use Rattle.error.specs.declared.Outcome.the-variants.{Ready, Waiting, Nothing}
-use Rattle.model.specs.Lists.{Bytes}
+use Rattle.model.specs.Lists.{Bytes, on}
+use Rattle.model.specs.Slots.{get}
 use Rattle.model.specs.Stream.{End, fresh}
 use Rattle.model.specs.Answers.{Answer}
 use Rattle.model.specs.Calls.{Call, writeCall, deliverCall, driveCall, takeCall, readCall, closeCall, answer, after}
@@ -55,6 +57,17 @@ numbersOf e =
     ∷ e .totals .inflightBytes
     ∷ []
 
+-- how often packet 0 was transmitted
+abbrev transmitsOf : End → ℕ
+transmitsOf e = on (get (e .sender .outgoing) 0) 0 (λ p. p .marks .transmits)
+
+-- a packet that is taken after every drive
+abbrev taken : List Call → List Call
+taken cs = writeCall aaa ∷ driveCall 0 ∷ takeCall 14_000 ∷ cs
+
+abbrev dueAt : ℕ → List Call → List Call
+dueAt clock cs = driveCall clock ∷ takeCall 14_000 ∷ cs
+
 -- 01's example (end 0: id 1, end 1: id 2)
 pub record Examples : Type 0 where
   -- "write 0 ok 3, drive 0 ok 0, take 0 ok 23, take 0 none 0"
@@ -87,3 +100,16 @@ pub record Examples : Type 0 where
       ∷ [])
       (fresh 1 2 10 0))
       ≡ 1 ∷ 0 ∷ 2_800 ∷ 0 ∷ 1_000_000_000 ∷ 2_400_000_000 ∷ 1 ∷ 3 ∷ 1 ∷ 0 ∷ 0 ∷ 0 ∷ []
+  -- "A packet taken after every drive and never acked: due drives find transmits 1, 3, 5, 7"
+  pub never-acked :
+      transmitsOf (after (taken []) (fresh 1 2 10 0))
+      ∷ transmitsOf (after (taken (dueAt 1_000_000_000 [])) (fresh 1 2 10 0))
+      ∷ transmitsOf (after (taken (dueAt 1_000_000_000 (dueAt 3_000_000_000 []))) (fresh 1 2 10 0))
+      ∷ transmitsOf (after (taken (dueAt 1_000_000_000 (dueAt 3_000_000_000 (dueAt 5_000_000_000 [])))) (fresh 1 2 10 0))
+      ∷ []
+      ≡ 1 ∷ 3 ∷ 5 ∷ 7 ∷ []
+  -- "the fourth fails", and not the third
+  pub third-goes :
+      (after (taken (dueAt 1_000_000_000 (dueAt 3_000_000_000 (dueAt 5_000_000_000 [])))) (fresh 1 2 10 0)) .ending .error ≡ error.None
+  pub fourth-fails :
+      (after (taken (dueAt 1_000_000_000 (dueAt 3_000_000_000 (dueAt 5_000_000_000 (driveCall 7_000_000_000 ∷ []))))) (fresh 1 2 10 0)) .ending .error ≡ error.TimedOut

@@ -2,7 +2,7 @@
 -- the bits; that each undoes the other is in proofs/WordLaws.antt. Assumes nothing.
 use Prim.Native.Nat.{ℕ, _+_, _-_, _*_, _/_, _%_, _^_}
 use mathlib.Core.Bool.{Bool, cond, _&&_, not}
-use lib.Dec.{eqb}
+use lib.Dec.{eqb, leb}
 use Rattle.rtt.specs.Estimate.{nanos}
 use Rattle.records.specs.declared.words.Sent.{Sent}
 use Rattle.records.specs.declared.words.Held.{Held}
@@ -38,6 +38,10 @@ sentTime p = cond (p .timed) ((p .«sent_at» .0 + 1) % 2 ^ 64) 0
 abbrev pub isStored : Sent → ℕ → Bool
 isStored p n = not (eqb (p .length) 0) && eqb (p .number) n
 
+-- it is packet n with a length from least to most
+abbrev pub isSized : Sent → (n least most : ℕ) → Bool
+isSized p n least most = eqb (p .number) n && (leb least (p .length) && leb (p .length) most)
+
 -- held packets: number 2^32 + (length + 1) 2^16 + offset
 
 unfoldable pub heldOf : ℕ → Held
@@ -49,10 +53,18 @@ heldWord p = 4_294_967_296 * p .number + (p .past % 65_536 * 65_536 + p .offset 
 abbrev pub isHeld : Held → ℕ → Bool
 isHeld p n = not (eqb (p .past) 0) && eqb (p .number) n
 
--- queue entries: number 2^32 + length 2 + state
+-- it is packet n with at most so many bytes
+abbrev pub isShort : Held → (n most : ℕ) → Bool
+isShort p n most = isHeld p n && leb (p .past - 1) most
+
+-- queue entries: number 2^32 + length 64 + state
 
 unfoldable pub entryOf : ℕ → Entry
-entryOf w = record { number = high w; length = low w / 2; state = eqb (low w % 2) 1 }
+entryOf w = record { number = high w; length = low w / 64; state = eqb (low w % 2) 1 }
 
 unfoldable pub entryWord : Entry → ℕ
-entryWord x = 4_294_967_296 * x .number + (x .length % 65_536 * 2 + cond (x .state) 1 0)
+entryWord x = 4_294_967_296 * x .number + (x .length % 65_536 * 64 + cond (x .state) 1 0)
+
+-- an entry with the number and the length of a packet
+abbrev pub samePacket : Sent → Entry → Bool
+samePacket p x = eqb (p .number) (x .number) && eqb (p .length) (x .length)

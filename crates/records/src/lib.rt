@@ -21,10 +21,13 @@ pub use words::get_entry;
 pub use words::get_held;
 pub use words::get_sent;
 pub use words::is_held;
+pub use words::is_short;
+pub use words::is_sized;
 pub use words::is_stored;
 pub use words::put_entry;
 pub use words::put_held;
 pub use words::put_sent;
+pub use words::same_packet;
 
 pub struct Ids {
     pub local: u32,

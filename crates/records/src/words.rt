@@ -4,8 +4,9 @@
 //   sent[i]       number 2^32 + length 64 + transmits 2 + waiting, of the packet in slot i of the outgoing store
 //   sent[32 + i]  its time sent and 1, or 0 for none
 //   held[i]       number 2^32 + (length + 1) 2^16 + offset, of the packet in slot i of the incoming store
-//   queue[i]      number 2^32 + length 2 + state
+//   queue[i]      number 2^32 + length 64 + state
 //
+// Number and length stand at the same bits in a packet's word and in its entry's, so that one comparison tells both.
 // A packet's slot is its number mod 32. A word with another number, or with 0 where the length stands, is no packet.
 ghost use mathlib.Core.Path.{_≡_};
 ghost use mathlib.Core.Bool.{cond};
@@ -16,12 +17,16 @@ ghost use Rattle.records.specs.Words.{
   sentWord,
   sentTime,
   isStored,
+  isSized,
   heldOf,
   heldWord,
   isHeld,
+  isShort,
   entryOf,
   entryWord,
+  samePacket,
 };
+ghost use Rattle.records.specs.Seen.{sentIn};
 use rtt::Nanos;
 
 // A packet of the outgoing store.
@@ -120,6 +125,18 @@ pub fn is_stored(p: Sent, n: u32) -> bool
     if p.length == 0 { false } else { p.number == n }
 }
 
+// The slot of number n holds packet n with a length from least to most.
+pub fn is_sized(sent: &[u64; 64], n: u32, least: u32, most: u32) -> bool
+    requires { ⌜ (least ≤ most) × (most < 67_108_864) ⌝ }
+    ensures { λ r. ⌜ r ≡ isSized (sentIn (now (sent .entry)) (n % 32)) n least most ⌝ }
+{
+    let i = slot(n);
+    let w = sent[i];
+    let from = 67_108_864 * (n as u64) + least as u64;
+    let past = std::num::wrapping_sub_u64(w / 64, from);
+    past <= (most - least) as u64
+}
+
 fn sent_word(p: Sent) -> u64
     ensures { λ r. ⌜ r ≡ sentWord p ⌝ }
 {
@@ -180,6 +197,18 @@ pub fn is_held(p: Held, n: u32) -> bool
     if p.past == 0 { false } else { p.number == n }
 }
 
+// The slot of number n holds packet n with at most so many bytes.
+pub fn is_short(held: &[u64; 32], n: u32, most: u32) -> bool
+    requires { ⌜ most < 65_535 ⌝ }
+    ensures { λ r. ⌜ r ≡ isShort (heldOf (getD (now (held .entry)) (n % 32) 0)) n most ⌝ }
+{
+    let i = slot(n);
+    let w = held[i];
+    let from = 65_536 * (n as u64) + 1;
+    let past = std::num::wrapping_sub_u64(w / 65_536, from);
+    past <= most as u64
+}
+
 fn held_word(p: Held) -> u64
     ensures { λ r. ⌜ r ≡ heldWord p ⌝ }
 {
@@ -209,7 +238,7 @@ fn entry_of(w: u64) -> Entry
     let rest = low(w);
     Entry {
         number: high(w),
-        length: rest / 2,
+        length: rest / 64,
         state: rest % 2 == 1,
     }
 }
@@ -221,10 +250,21 @@ pub fn get_entry(queue: &[u64; 128], i: usize) -> Entry
     entry_of(queue[i])
 }
 
+// The word in the slot of the entry's number has its number and its length.
+pub fn same_packet(queue: &[u64; 128], i: usize, sent: &[u64; 64]) -> bool
+    requires { ⌜ i < 128 ⌝ }
+    ensures { λ r. ⌜ r ≡ samePacket (sentIn (now (sent .entry)) (entryOf (getD (now (queue .entry)) i 0) .number % 32)) (entryOf (getD (now (queue .entry)) i 0)) ⌝ }
+{
+    let w = queue[i];
+    let at = slot(high(w));
+    let p = sent[at];
+    p / 64 == w / 64
+}
+
 fn entry_word(x: Entry) -> u64
     ensures { λ r. ⌜ r ≡ entryWord x ⌝ }
 {
-    word(x.number, x.length % 65_536 * 2 + bit(x.state))
+    word(x.number, x.length % 65_536 * 64 + bit(x.state))
 }
 
 pub fn put_entry(queue: &mut [u64; 128], i: usize, x: Entry)

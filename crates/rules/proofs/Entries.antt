@@ -1,4 +1,4 @@
--- The pass over the queue's entries: what is known at each of them (`Going`), and that it stays known, state packet or packet.
+-- The pass over the queue's entries: what is known at each of them (`Going`), and that it stays known, state packet, stored packet or any other.
 -- Assumes nothing.
 use Prim.Native.Nat.{ℕ, _+_, _%_, _<_, _≤_}
 use native.Mathlib.Numerals.{add-one}
@@ -6,16 +6,19 @@ use native.Mathlib.Nat.{zero-add, add-zero}
 use native.Mathlib.Omega.{arith}
 use mathlib.Core.Path.{_≡_, refl, ap, _∙_, sym}
 use mathlib.Core.List.{List, [], _∷_}
-use mathlib.Core.Bool.{Bool, true, false, _&&_, not, and-true}
+use mathlib.Core.Bool.{Bool, true, false, cond, _&&_, not, and-true}
+use lib.Dec.{leb, ltb, eqb}
 use lib.ListN.{length, getD, set, take, drop, replicate, length-set, length-take, drop-of-length-le}
 use lib.Seq.{slice-cons}
+use borrow.Author.Tests.{eqb-true, eq-eqb}
 use Rattle.model.specs.Rules.{distinct, every}
 use Rattle.records.specs.declared.words.Entry.{Entry}
-use Rattle.records.specs.Words.{entryOf}
+use Rattle.records.specs.Words.{isStored, entryOf, samePacket}
+use Rattle.records.specs.Seen.{sentIn}
 use Rattle.rules.specs.Ok.{stateCount, packetNumbers}
-use Rattle.rules.specs.Passes.{known, queuedOk, entryRule, EntriesPassed}
+use Rattle.rules.specs.Passes.{known, sized, queuedOk, plainOk, entryRule, EntriesPassed}
 use Rattle.rules.proofs.From.{swap}
-use Rattle.rules.proofs.Marks.{free, fresh, fresh-from-none}
+use Rattle.rules.proofs.Marks.{free, fresh, fresh-from-none, and-left, and-right}
 
 -- the words from i to below end
 
@@ -27,6 +30,16 @@ one-more words end i h k = slice-cons i end words 0 h k ∙ rw add-one
 
 no-more : (words : List ℕ) (end i : ℕ) → end ≤ i → rest words end i ≡ []
 no-more words end i h = drop-of-length-le (take end words) {i = i} (simp length-take (omega arith))
+
+either : (b : Bool) → true ≡ cond b true true
+either true = refl
+either false = refl
+
+-- the test of a stored packet's entry as the code makes it
+pub plain-by : (acked seq : ℕ) (sent words : List ℕ) (i : ℕ) (x : Entry) (t same : Bool) → x ≡ entryOf (getD words i 0)
+    → same ≡ samePacket (sentIn sent (entryOf (getD words i 0) .number % 32)) (entryOf (getD words i 0))
+    → t ≡ (leb acked (x .number) && (ltb (x .number) seq && (same && sized (x .length)))) → t ≡ plainOk acked seq sent x
+plain-by acked seq sent words i x t same x-is same-is t-is = rw (t-is, same-is, x-is)
 
 module _ (acked seq first end : ℕ) (sent words : List ℕ) where
   -- what was found below i, with what the entries from i on add to it
@@ -76,6 +89,24 @@ module _ (acked seq first end : ℕ) (sent words : List ℕ) where
           long = length-set marks (x .number % 32) true ∙ g .long;
           few = omega arith;
         }
+
+    -- the entry of a stored packet with that packet's length, whose mark is not set
+    pub alike : (t : Bool) → x .state ≡ false → t ≡ plainOk acked seq sent x → (t && not (getD marks (x .number % 32) false)) ≡ true
+        → Going (i + 1) (set marks (x .number % 32) true) good new states
+    alike t e t-is h =
+        let p = sentIn sent (x .number % 32) in
+        let from = leb acked (x .number) in
+        let below = ltb (x .number) seq in
+        let same = samePacket p x in
+        let plain = sym t-is ∙ and-left t (not (getD marks (x .number % 32) false)) h in
+        let later = and-right from (below && (same && sized (x .length))) plain in
+        let last = and-right below (same && sized (x .length)) later in
+        let near : known acked seq (x .number) ≡ true =
+        rw (and-left from (below && (same && sized (x .length))) plain, and-left below (same && sized (x .length)) later) in
+        let length-is = eqb-true (p .length) (x .length) (and-right (eqb (p .number) (x .number)) (eqb (p .length) (x .length)) (and-left same (sized (x .length)) last)) in
+        let rule : true ≡ queuedOk true sent x =
+        rw (and-right same (sized (x .length)) last, eq-eqb (x .length) (p .length) (sym length-is)) (either (isStored p (x .number))) in
+        packet true true true e (sym near) rule (sym (and-right t (not (getD marks (x .number % 32) false)) h))
 
   pub done : (i : ℕ) (marks : List Bool) (good new : Bool) (states : ℕ) → Going i marks good new states → end ≤ i
       → EntriesPassed acked seq sent (rest words end first) good new states

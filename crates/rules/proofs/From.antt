@@ -1,11 +1,11 @@
--- Tests and sums over the numbers from n to below e, as a loop that goes up computes them: what is found so far together with the rest
--- is the whole. Assumes nothing.
+-- Tests and sums over the numbers from n to below e, as a loop that goes up computes them: the first test that fails ends it, and a sum so
+-- far together with the rest is the whole. Assumes nothing.
 use Prim.Native.Nat.{ℕ, suc, _+_, _-_, _<_, _≤_}
 use native.Mathlib.Numerals.{add-one}
 use native.Mathlib.Nat.{add-assoc, add-zero, zero-add}
 use native.Mathlib.Omega.{arith}
 use mathlib.Core.Path.{_≡_, refl}
-use mathlib.Core.Bool.{Bool, true, false, _&&_, and-true}
+use mathlib.Core.Bool.{Bool, true, false, _&&_}
 use Rattle.rules.specs.Ok.{everyFrom, sumFrom}
 
 -- one number more: how many are left
@@ -20,18 +20,18 @@ swap true b c = refl
 swap false true c = refl
 swap false false c = refl
 
-module _ (f : ℕ → Bool) (n e : ℕ) (good : Bool) where
-  pub every-done : e ≤ n → (good && everyFrom (e - n) n f) ≡ good
+module _ (f : ℕ → Bool) (n e : ℕ) where
+  pub every-done : e ≤ n → true ≡ everyFrom (e - n) n f
   unfolding everyFrom
-  every-done h = rw (none n e h) (and-true good)
+  every-done h = rw (none n e h)
 
-  pub every-turn : (q : Bool) → n < e → q ≡ f n → ((q && good) && everyFrom (e - (n + 1)) (n + 1) f) ≡ (good && everyFrom (e - n) n f)
+  pub every-turn : n < e → f n ≡ true → everyFrom (e - (n + 1)) (n + 1) f ≡ everyFrom (e - n) n f
   unfolding everyFrom
-  every-turn q h k = rw (left n e h, k, add-one) (swap (f n) good (everyFrom (e - suc n) (suc n) f))
+  every-turn h k = rw (left n e h, k, add-one)
 
-  pub every-skip : n < e → f n ≡ true → (good && everyFrom (e - (n + 1)) (n + 1) f) ≡ (good && everyFrom (e - n) n f)
+  pub every-stop : n < e → f n ≡ false → false ≡ everyFrom (e - n) n f
   unfolding everyFrom
-  every-skip h k = rw (left n e h, k, add-one)
+  every-stop h k = rw (left n e h, k)
 
 module _ (f : ℕ → ℕ) (n e so-far : ℕ) where
   pub sum-done : e ≤ n → so-far + sumFrom (e - n) n f ≡ so-far

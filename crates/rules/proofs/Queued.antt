@@ -29,6 +29,7 @@ entry-is s sent w =
     let x = entryOf w in
     let p = sentIn sent (x .number % 32) in
     rw (
+      and-assoc (leb 21 (x .length)) (leb (x .length) 1_400) (cond (known (s .«remote_acked») (s .seq) (x .number) && isStored p (x .number)) (eqb (x .length) (p .length)) true),
       and-assoc (leb (s .«remote_acked») (x .number)) (ltb (x .number) (s .seq)) (isStored p (x .number)),
       same-is (leb (s .«remote_acked») (x .number) && (ltb (x .number) (s .seq) && isStored p (x .number))) (x .length) (p .length),
     )

@@ -1,9 +1,11 @@
 // The rules of the queue.
 ghost use mathlib.Core.Path.{_≡_};
+ghost use mathlib.Core.Bool.{_&&_};
+ghost use lib.Dec.{leb, ltb};
 ghost use Prim.Native.Nat.{_+_, _≤_};
 ghost use lib.ListN.{drop, take, length};
 ghost use Rattle.rules.specs.Ok.{placesOk, okQueue};
-ghost use Rattle.rules.specs.Passes.{queuedOk, EntriesPassed};
+ghost use Rattle.rules.specs.Passes.{sized, queuedOk, EntriesPassed};
 use crate::picks::both;
 use crate::picks::implies;
 use crate::picks::less;
@@ -23,6 +25,13 @@ struct Passed {
     states: u32,
 }
 
+// "lengths are 21 to 1,400 .. queued"
+fn sized(length: u32) -> bool
+    ensures { λ r. ⌜ r ≡ sized length ⌝ }
+{
+    both(21 <= length, length <= UDX_MTU)
+}
+
 // An entry that is no state packet; near says that its number is from remote acked to below seq.
 fn queued_ok(near: bool, x: Entry, sent: &[u64; 64]) -> bool
     ensures { λ r. ⌜ r ≡ queuedOk near (now (sent .entry)) x ⌝ }
@@ -31,8 +40,18 @@ fn queued_ok(near: bool, x: Entry, sent: &[u64; 64]) -> bool
     let stored = both(near, records::is_stored(p, x.number));
     // "a queued length is its packet's while that is stored"
     let same = implies(stored, x.length == p.length);
-    // "lengths are 21 to 1,400 .. queued"
-    both(21 <= x.length, both(x.length <= UDX_MTU, same))
+    both(sized(x.length), same)
+}
+
+// The quick test: a packet that is stored with the entry's length, as most are. same says that the word in its slot has its number and
+// its length.
+fn plain(acked: u32, seq: u32, x: Entry, same: bool) -> bool
+    ensures { λ r. ⌜ r ≡ (leb acked (x .number) && (ltb (x .number) seq && (same && sized (x .length)))) ⌝ }
+{
+    both(
+        acked <= x.number,
+        both(x.number < seq, both(same, sized(x.length))),
+    )
 }
 
 // The entries of the words from first to below end. One mark for each slot tells whether a number was there before.
@@ -54,16 +73,21 @@ fn entries(
     let mut i = first;
     while i < end {
         let x = records::get_entry(queue, i);
+        let same = records::same_packet(queue, i, sent);
         i += 1;
         if x.state {
             states += 1;
         } else {
             let n = x.number;
             let slot = (n % 32) as usize;
-            let near = both(acked <= n, n < seq);
-            good = both(queued_ok(near, x, sent), good);
-            fresh = both(both(near, !marks[slot]), fresh);
-            marks[slot] = true;
+            if both(plain(acked, seq, x, same), !marks[slot]) {
+                marks[slot] = true;
+            } else {
+                let near = both(acked <= n, n < seq);
+                good = both(queued_ok(near, x, sent), good);
+                fresh = both(both(near, !marks[slot]), fresh);
+                marks[slot] = true;
+            }
         }
     }
     Passed {

@@ -1,11 +1,10 @@
 // The rules of the stored packets and of the sender's numbers.
 ghost use mathlib.Core.Path.{_≡_};
-ghost use mathlib.Core.Bool.{true, _&&_};
+ghost use mathlib.Core.Bool.{false};
 ghost use Prim.Native.Nat.{_+_, _≤_};
 ghost use Rattle.rules.specs.Ok.{okSender};
-ghost use Rattle.rules.specs.Passes.{inTime, packetOk, StoredSums};
+ghost use Rattle.rules.specs.Passes.{inTime, StoredSums};
 use crate::picks::both;
-use crate::picks::less;
 use crate::picks::pick32;
 use constants::CWND_MAX;
 use constants::STORE_SLOTS;
@@ -15,7 +14,7 @@ use records::Sent;
 use records::Totals;
 use rtt::Nanos;
 
-// What the pass over the stored packets finds: that each keeps its rules, and the sums over them.
+// What the pass over the stored packets finds: whether each keeps its rules, and the sums over them if so.
 struct Sums {
     good: bool,
     inflight: u64,
@@ -30,14 +29,16 @@ fn in_time(p: Sent, clock: u64) -> bool
     if p.timed { p.sent_at.0 <= clock } else { true }
 }
 
-fn packet_ok(p: Sent, clock: u64) -> bool
-    ensures { λ r. ⌜ r ≡ packetOk p clock ⌝ }
+// A packet that breaks a rule ends the pass.
+fn broken() -> Sums
+    ensures { λ r. ⌜ r .good ≡ false ⌝ }
 {
-    // "lengths are 21 to 1,400 stored"
-    let length = both(21 <= p.length, p.length <= UDX_MTU);
-    // "transmits are at most 7"
-    let transmits = p.transmits <= 7;
-    both(length, both(transmits, in_time(p, clock)))
+    Sums {
+        good: false,
+        inflight: 0,
+        packets: 0,
+        bytes: 0,
+    }
 }
 
 // The stored packets lie from acked to below seq, each in the slot of its number.
@@ -45,27 +46,33 @@ fn stored(acked: u32, seq: u32, clock: u64, sent: &[u64; 64]) -> Sums
     requires { ⌜ seq ≤ acked + 32 ⌝ }
     ensures { λ r. ⌜ StoredSums acked seq clock (now (sent .entry)) (r .good) (r .inflight) (r .packets) (r .bytes) ⌝ }
 {
-    let mut good = true;
     let mut inflight: u64 = 0;
     let mut packets: u64 = 0;
-    let mut bytes: u64 = 0;
+    let mut lengths: u64 = 0;
     let mut n = acked;
     while n < seq {
         let p = records::get_sent(sent, n);
         let here = records::is_stored(p, n);
+        // "lengths are 21 to 1,400 stored"
+        let sized = records::is_sized(sent, n, 21, UDX_MTU);
+        // "transmits are at most 7"
+        let kept = both(both(sized, p.transmits <= 7), in_time(p, clock));
         n += 1;
-        if here {
-            good = both(packet_ok(p, clock), good);
+        if kept {
             inflight += pick32(p.waiting, 0, p.length) as u64;
             packets += 1;
-            bytes += less(p.length, 20) as u64;
+            lengths += p.length as u64;
+        } else {
+            if here {
+                return broken();
+            }
         }
     }
     Sums {
-        good,
+        good: true,
         inflight,
         packets,
-        bytes,
+        bytes: lengths - 20 * packets,
     }
 }
 

@@ -1,5 +1,18 @@
 // The calls of a stream. Each takes the records as they are, tests the refusals of 01 in their order, and answers with the stream and the
 // totals after it. specs/Agree.antt says how an answer on the records is the model's.
+//
+// The calls, with the refusals that each can answer, in checking order:
+//
+//   open            1 (lengths alone), 3, 4
+//   write           1, 6, 14, 15, 16, 17
+//   deliver         1, 4, 5, 6, 7, 8, 9, 10, 11, 12, 13
+//   drive           1, 4, 5, 6
+//   take            1, 2
+//   look            none: an empty part in place of 1
+//   read            1, 14, 15, 16
+//   close           1, 5, 6, 13
+//   Header::encode  2
+//   Header::from_bytes (decode)  7
 mod batches;
 mod closed;
 mod datagrams;

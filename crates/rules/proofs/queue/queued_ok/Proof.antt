@@ -6,11 +6,11 @@ use Rattle.rules.proofs.queue.queued_ok.Tie as tie
 
 returns : tie.Need-returns
 returns c =
-    let i = c .before .before .before .before in
+    let i = c .before .before in
     let b = i .before .before .before in
     rw (
-      c .both3 .ensures,
-      c .before .both2 .ensures,
+      c .both2 .ensures,
+      c .before .sized .ensures,
       i .implies .ensures,
       b .both .ensures,
       b .before .is-stored .ensures,

@@ -1,0 +1,81 @@
+-- A packet that is seen under its number lies in its slot of the lent store (`stored-on`): its word is packet n, and the store has the
+-- length that open tested, so the bytes that are seen are the store's own. Assumes nothing.
+use Prim.Native.Nat.{ℕ, _+_, _-_, _*_, _%_, _≤_, _<_}
+use native.Mathlib.Omega.{arith}
+use mathlib.Core.Path.{_≡_, refl, sym, ap, _∙_, subst}
+use mathlib.Core.List.{List}
+use mathlib.Core.Option.{none, some}
+use mathlib.Core.Bool.{Bool, true, false, cond, _||_, not}
+use lib.Dec.{eqb}
+use lib.ListN.{length, take, drop, length-drop}
+use borrow.Author.Tests.{eqb-true}
+use Rattle.model.specs.Lists.{Bytes}
+use Rattle.model.specs.Slots.{ceiling}
+use Rattle.model.specs.Stream.{Packet}
+use Rattle.model.specs.TwoEnds as model
+use Rattle.model.proofs.Gate.{and-left}
+use Rattle.model.proofs.Invariant.{StoredIn}
+use Rattle.model.proofs.Slots.{no-some, some-inj}
+use Rattle.model.proofs.SlotSums.{slots-look}
+use Rattle.records.specs.Words.{isStored}
+use Rattle.records.specs.Cut.{cut, outgoingSlot}
+use Rattle.records.specs.Seen.{packetOf, sentIn, seen}
+use Rattle.records.specs.Open.{storesTest}
+use Rattle.records.proofs.Cut.{out-is, cut-length, cut-drop}
+use Rattle.records.proofs.SeenOutgoing.{storedAt, get-outgoing}
+use Rattle.udx.specs.Agree.{laidOut}
+use Rattle.promise.specs.Runs.{Records, seenOf}
+use Rattle.promise.specs.TwoEndsOnRecords.{Side, StoredBy}
+use Rattle.promise.proofs.Line.{seenSide, Laid}
+
+first-fits : (a b : Bool) → not (not a || b) ≡ true → a ≡ true
+first-fits true b h = refl
+first-fits false b h = h
+
+outgoing-whole : (x : Records) → laidOut (x .stream) (x .lent) ≡ true → length (x .lent .outgoing) ≡ 44_800
+unfolding laidOut
+outgoing-whole x h =
+    eqb-true _ _ (first-fits (eqb (length (x .lent .outgoing)) 44_800) _ (and-left (not (storesTest (x .lent .outgoing) (x .lent .incoming) (x .lent .headers))) _ h))
+
+-- the packet that a slot's word is
+packet-is : (words : List ℕ) (store : Bytes) (n : ℕ) (p : Packet) → storedAt words store n ≡ some p → p ≡ packetOf store (n % ceiling) (sentIn words (n % ceiling))
+packet-is words store n p e = go (isStored (sentIn words (n % ceiling)) n) e
+  where
+    go : (b : Bool) → cond b (some (packetOf store (n % ceiling) (sentIn words (n % ceiling)))) none ≡ some p → p ≡ packetOf store (n % ceiling) (sentIn words (n % ceiling))
+    go true e = some-inj e refl
+    go false e = absurd (no-some refl e)
+
+in-store : (i k whole : ℕ) → i < 32 → k ≤ 1_400 → whole ≡ 44_800 → i * 1_400 + k ≤ whole
+in-store i k whole a b c = omega arith
+
+slot-low : (n : ℕ) → n % 32 < 32
+slot-low n = omega arith
+
+cut-lies : (store : Bytes) (i k : ℕ) → i < 32 → k ≤ 1_400 → length store ≡ 44_800
+    → take (k - 20) (drop (i * 1_400 + 20) store) ≡ drop 20 (cut outgoingSlot store i k)
+cut-lies store i k a b c =
+    sym (cut-drop outgoingSlot store i k 20 (rw out-is (in-store i k (length store) a b c)) (rw out-is b)
+    ∙ ap (λ (z : ℕ). take (k - 20) (drop (i * z + 20) store)) out-is)
+
+pub stored-on : (x : Side) → Laid x → (n : ℕ) (piece : Bytes) → model.StoredBy (seenSide x) n piece → StoredBy x n piece
+unfolding seen
+stored-on x laid n piece (p, e, q) =
+    let s = x .records .stream .sender in
+    let l = x .records .lent in
+    let word = sentIn (l .sent) (n % ceiling) in
+    let f = slots-look (StoredIn (seenOf (x .records))) (seenOf (x .records) .sender .outgoing) n p (laid .keeps .facts .stored) e in
+    let bytes : p .bytes ≡ cut outgoingSlot (l .outgoing) (n % ceiling) (word .length) =
+    ap (λ (z : Packet). z .bytes) (packet-is (l .sent) (l .outgoing) n p (sym (get-outgoing (s .«remote_acked») (s .seq) (l .sent) (l .outgoing) n (f .from) (f .below)) ∙ e)) in
+    let size : length (p .bytes) ≡ word .length = ap length bytes ∙ cut-length outgoingSlot (l .outgoing) (n % ceiling) (word .length) in
+    let most : word .length ≤ 1_400 = subst (λ (k : ℕ). k ≤ 1_400) size (f .most) in
+    let whole : length (l .outgoing) ≡ 44_800 = outgoing-whole (x .records) (laid .laid) in
+    let is : drop 20 (cut outgoingSlot (l .outgoing) (n % ceiling) (word .length)) ≡ piece = sym (ap (drop 20) bytes) ∙ q in
+    let count : length piece ≡ word .length - 20 = sym (ap length q) ∙ length-drop 20 (p .bytes) ∙ ap (λ (k : ℕ). k - 20) size in
+    record {
+      packet = p;
+      stored = e;
+      payload = q;
+      lies =
+          ap (λ (k : ℕ). take k (drop (n % 32 * 1_400 + 20) (l .outgoing))) count
+          ∙ cut-lies (l .outgoing) (n % ceiling) (word .length) (slot-low n) most whole ∙ is;
+    }
