@@ -31,7 +31,7 @@ use Rattle.records.specs.Put.{put}
 use Rattle.records.specs.Seen.{Lent, seen}
 use Rattle.records.specs.Open.{freshStream, storesTest, openWhy, openedOutcome}
 use Rattle.records.proofs.SeenFresh.{seen-fresh, fresh-formed}
-use Rattle.udx.specs.declared.step.Step.{Step}
+use Rattle.answers.specs.declared.step.Step.{Step}
 use Rattle.udx.specs.Agree.{laidOut, onRecords, segmentOf, Agrees, Answers}
 use Rattle.udx.specs.Look.{shownOf}
 use Rattle.promise.specs.Runs.{Records, seenOf, Request, toWrite, toDeliver, toDrive, toTake, toRead, toClose, callOf, Event, left, DidWith, Did, answerOf, Run, lastOf, callsOf, OpenedBy, handedOut, SameAsModel}

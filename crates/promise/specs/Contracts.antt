@@ -22,8 +22,8 @@ use Rattle.records.specs.declared.Totals.{Totals}
 use Rattle.records.specs.Seen.{Lent}
 use Rattle.records.specs.Open.{Opens}
 use Rattle.records.proofs.«open» as opening
-use Rattle.udx.specs.declared.step.Step.{Step}
-use Rattle.udx.specs.Agree.{lent}
+use Rattle.answers.specs.declared.step.Step.{Step}
+use Rattle.answers.specs.Steps.{lent}
 use Rattle.udx.specs.Look.{shownOf}
 use Rattle.udx.proofs.write as write
 use Rattle.udx.proofs.deliver as deliver

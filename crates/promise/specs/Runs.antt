@@ -19,7 +19,7 @@ use Rattle.records.specs.declared.Totals.{Totals}
 use Rattle.records.specs.declared.opening.Opened.{Opened}
 use Rattle.records.specs.Seen.{Lent, seen}
 use Rattle.records.specs.Open.{Opens}
-use Rattle.udx.specs.declared.step.Step.{Step}
+use Rattle.answers.specs.declared.step.Step.{Step}
 use Rattle.udx.specs.Agree.{segmentOf, Answers}
 use Rattle.udx.specs.Look.{shownOf}
 use Rattle.udx.specs.Read.{Gives}

@@ -19,7 +19,7 @@ use Rattle.model.specs.Driving.{datagramsOf}
 use Rattle.model.specs.TwoEnds.{History, noHistory, isRefused, dataNumber, unreadInOrder, Id}
 use Rattle.records.specs.declared.opening.Opened.{Opened}
 use Rattle.records.specs.Seen.{Lent}
-use Rattle.udx.specs.declared.step.Step.{Step}
+use Rattle.answers.specs.declared.step.Step.{Step}
 use Rattle.udx.specs.Agree.{segmentOf}
 use Rattle.promise.specs.Runs.{Records, seenOf, Request, toWrite, toDeliver, toDrive, toTake, toRead, toClose, Event, left, Did, OpenedBy, handedOut}
 

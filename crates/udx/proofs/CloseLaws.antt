@@ -29,9 +29,10 @@ use Rattle.records.specs.Open.{storesTest}
 use Rattle.closing.specs.declared.Queued.{Queued}
 use Rattle.closing.specs.State.{seenEnding, Pushable, StateQueued, withState}
 use Rattle.closing.proofs.StatePacket.{terminate-seen}
-use Rattle.udx.specs.Agree.{laidOut, refusedStep, Agrees, Answers}
-use Rattle.udx.specs.Close.{closedStep}
-use Rattle.udx.specs.Refusals.{brokenRecords, verdictOf, closeVerdict}
+use Rattle.answers.specs.Steps.{refusedStep}
+use Rattle.udx.specs.Agree.{laidOut, Agrees, Answers}
+use Rattle.answers.specs.Close.{closedStep}
+use Rattle.answers.specs.Refusals.{brokenRecords, verdictOf, closeVerdict}
 use Rattle.udx.proofs.RefusalLaws.{line, clear-line, refusal-one, is-refused, is-clear, acts-on, whyOf, refused-answers}
 use Rattle.udx.proofs.Resting.{ready}
 use Rattle.udx.proofs.Unbroken.{Whole, unbroken, still-laid, places-used}

@@ -35,9 +35,10 @@ use Rattle.receiving.specs.Absorbing.{Accepted}
 use Rattle.receiving.proofs.LaidLaws.{laid-said, laid-says}
 use Rattle.delivering.specs.declared.Delivered.{Delivered}
 use Rattle.delivering.specs.Handle.{Deliverable, Handled, withDelivered}
-use Rattle.udx.specs.Agree.{laidOut, onRecords, refusedStep, Agrees, Answers}
-use Rattle.udx.specs.Deliver.{deliveredStep}
-use Rattle.udx.specs.Refusals.{brokenRecords, verdictOf, earlyVerdict, headerVerdict}
+use Rattle.answers.specs.Steps.{refusedStep}
+use Rattle.udx.specs.Agree.{laidOut, onRecords, Agrees, Answers}
+use Rattle.answers.specs.Deliver.{deliveredStep}
+use Rattle.answers.specs.Refusals.{brokenRecords, verdictOf, earlyVerdict, headerVerdict}
 use Rattle.udx.proofs.EarlyLaws.{early-says, early-clear, early-clock}
 use Rattle.udx.proofs.RefusalLaws.{line, clear-line, is-refused, is-clear, acts-on, whyOf, refused-answers}
 use Rattle.udx.proofs.Resting.{ready}

@@ -25,9 +25,10 @@ use Rattle.driving.proofs.RulesDrive.{rules-stored}
 use Rattle.polling.specs.declared.Polled.{Polled}
 use Rattle.polling.specs.Timeouts.{withPolled}
 use Rattle.polling.specs.Poll.{Drivable, Polls}
-use Rattle.udx.specs.Agree.{onRecords, refusedStep, Agrees, Answers}
-use Rattle.udx.specs.Drive.{doneStep, polledStep}
-use Rattle.udx.specs.Refusals.{brokenRecords, earlyVerdict}
+use Rattle.answers.specs.Steps.{refusedStep}
+use Rattle.udx.specs.Agree.{onRecords, Agrees, Answers}
+use Rattle.answers.specs.Drive.{doneStep, polledStep}
+use Rattle.answers.specs.Refusals.{brokenRecords, earlyVerdict}
 use Rattle.udx.proofs.EarlyLaws.{early-says, early-clear, early-clock}
 use Rattle.udx.proofs.RefusalLaws.{is-refused, is-clear, acts-on, refused-answers}
 use Rattle.udx.proofs.Resting.{ready}

@@ -30,9 +30,11 @@ use Rattle.rules.specs.Ok.{okStream, okReceiver, okSender, everyFrom, heldOk, c
 use Rattle.receiving.specs.declared.Read.{Read}
 use Rattle.receiving.specs.Reading.{HeldFit, Readable, HasRead}
 use Rattle.receiving.proofs.LaidLaws.{laid-said, laid-says}
-use Rattle.udx.specs.Agree.{onRecords, refusedStep, Agrees}
-use Rattle.udx.specs.Refusals.{brokenRecords, verdictOf}
-use Rattle.udx.specs.Read.{outcomeOf, readStream, readLent, readStep, Gives}
+use Rattle.answers.specs.Steps.{refusedStep}
+use Rattle.udx.specs.Agree.{onRecords, Agrees}
+use Rattle.answers.specs.Refusals.{brokenRecords, verdictOf}
+use Rattle.answers.specs.Read.{outcomeOf, readStream, readStep}
+use Rattle.udx.specs.Read.{readLent, Gives}
 use Rattle.udx.proofs.RefusalLaws.{refusal-one, whyOf, is-refused, is-clear, acts-on, refused-agrees, puts-nothing}
 use Rattle.udx.proofs.Unbroken.{Whole, unbroken, still-laid}
 

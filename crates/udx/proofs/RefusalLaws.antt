@@ -24,10 +24,10 @@ use Rattle.records.specs.declared.Totals.{Totals}
 use Rattle.records.specs.Put.{put}
 use Rattle.records.specs.Seen.{Lent, seen, seenQueue, formed}
 use Rattle.records.specs.Open.{storesTest}
-use Rattle.rules.specs.Ok.{okStream}
 use Rattle.rules.proofs.Seen.{ok-seen}
-use Rattle.udx.specs.Agree.{laidOut, onRecords, refusedStep, Agrees, Answers}
-use Rattle.udx.specs.Refusals.{brokenRecords, verdictOf, errorVerdict, writeVerdict}
+use Rattle.answers.specs.Steps.{refusedStep}
+use Rattle.udx.specs.Agree.{laidOut, onRecords, Agrees, Answers}
+use Rattle.answers.specs.Refusals.{brokenRecords, verdictOf, errorVerdict, writeVerdict}
 
 -- one line of a list
 pub line : (b : Bool) (why : Refusal) (v : Verdict) (o : Option Refusal) → v ≡ verdictOf o → cond b (Refused why) v ≡ verdictOf (cond b (some why) o)
@@ -59,21 +59,6 @@ unfolding brokenRecords laidOut
 refusal-one s t l v o h e =
     rw (e, ok-seen s t l h)
     (first-cases (storesTest (l .outgoing) (l .incoming) (l .headers)) (formed s (l .queue)) (rules (seen s t l)) o)
-
--- the lengths, then the rules
-pub differ-broken : (s : Stream) (t : Totals) (l : Lent) → true ≡ storesTest (l .outgoing) (l .incoming) (l .headers) → true ≡ brokenRecords s t l
-unfolding brokenRecords
-differ-broken s t l h = rw (sym h)
-
-pub rules-kept : (s : Stream) (t : Totals) (l : Lent) → false ≡ storesTest (l .outgoing) (l .incoming) (l .headers)
-    → true ≡ okStream s t (l .sent) (l .held) (l .queue) → false ≡ brokenRecords s t l
-unfolding brokenRecords
-rules-kept s t l h e = rw (sym h, sym e)
-
-pub rules-broken : (s : Stream) (t : Totals) (l : Lent) → false ≡ storesTest (l .outgoing) (l .incoming) (l .headers)
-    → false ≡ okStream s t (l .sent) (l .held) (l .queue) → true ≡ brokenRecords s t l
-unfolding brokenRecords
-rules-broken s t l h e = rw (sym h, sym e)
 
 -- what a verdict says
 

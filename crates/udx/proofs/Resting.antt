@@ -22,7 +22,7 @@ use Rattle.records.proofs.Table.{table-length}
 use Rattle.records.proofs.SeenQueue.{entries-length, rest-length}
 use Rattle.rules.specs.Ok.{okStream, okSender, sumFrom, packetsAt, clocksOk, senderNumbersOk, everyFrom, storedOk, sumsOk, inflightAt}
 use Rattle.sending.specs.Write.{Ready}
-use Rattle.udx.specs.Write.{outboxOf}
+use Rattle.answers.specs.Write.{outboxOf}
 use Rattle.udx.proofs.Unbroken.{Whole}
 
 -- the number of stored packets is at most that of numbers

@@ -30,9 +30,11 @@ use Rattle.taking.specs.declared.Handed.{Handed}
 use Rattle.taking.specs.Take.{takenStream, takenLent, Sendable, HandedOut, HandsOut}
 use Rattle.taking.proofs.RulesTake.{own-lends, rules-take}
 use Rattle.udx.specs.Agree as agree
-use Rattle.udx.specs.Agree.{onRecords, refusedStep, Agrees}
-use Rattle.udx.specs.Refusals.{brokenRecords, verdictOf, takeVerdict}
-use Rattle.udx.specs.Take.{nothingStep, takenStep, Hands}
+use Rattle.answers.specs.Steps.{refusedStep}
+use Rattle.udx.specs.Agree.{onRecords, Agrees}
+use Rattle.answers.specs.Refusals.{brokenRecords, verdictOf, takeVerdict}
+use Rattle.answers.specs.Take.{nothingStep, takenStep}
+use Rattle.udx.specs.Take.{Hands}
 use Rattle.udx.proofs.RefusalLaws.{line, refusal-one, whyOf, is-refused, is-clear, acts-on, clear-line, refused-answers, puts-nothing}
 use Rattle.udx.proofs.Unbroken.{Whole, unbroken, still-laid}
 

@@ -23,10 +23,11 @@ use Rattle.records.specs.Seen.{Lent, seen}
 use Rattle.records.specs.Open.{storesTest}
 use Rattle.sending.specs.declared.Written.{Written}
 use Rattle.sending.specs.Write as sending
-use Rattle.udx.specs.declared.step.Step.{Step}
-use Rattle.udx.specs.Agree.{onRecords, refusedStep, Agrees, Answers}
-use Rattle.udx.specs.Refusals.{brokenRecords, verdictOf, writeVerdict}
-use Rattle.udx.specs.Write.{outboxOf, outcomeOf, writtenStep}
+use Rattle.answers.specs.declared.step.Step.{Step}
+use Rattle.answers.specs.Steps.{refusedStep}
+use Rattle.udx.specs.Agree.{onRecords, Agrees, Answers}
+use Rattle.answers.specs.Refusals.{brokenRecords, verdictOf, writeVerdict}
+use Rattle.answers.specs.Write.{outboxOf, outcomeOf, writtenStep}
 use Rattle.udx.proofs.RefusalLaws.{write-list, is-refused, is-clear, acts-on, whyOf, clear-line, refused-answers}
 use Rattle.udx.proofs.Resting.{ready}
 use Rattle.udx.proofs.Unbroken.{Whole, unbroken, still-laid}

@@ -2,7 +2,6 @@
 -- what is seen of them. A refused call changes nothing. Assumes nothing.
 use Prim.Native.Nat.{ℕ}
 use mathlib.Core.Path.{_≡_}
-use mathlib.Core.List.{List}
 use mathlib.Core.Option.{Option, none, some}
 use mathlib.Core.Bool.{Bool, true, cond, _&&_, not}
 use lib.Dec.{eqb}
@@ -15,12 +14,7 @@ use Rattle.records.specs.declared.Stream.{Stream}
 use Rattle.records.specs.declared.Totals.{Totals}
 use Rattle.records.specs.Seen.{Lent, seen, formed}
 use Rattle.records.specs.Open.{storesTest}
-use Rattle.udx.specs.declared.step.Step.{Step}
-
--- the words and the stores that a call is lent
-abbrev pub lent : (sent held queue outgoing incoming headers : List ℕ) → Lent
-lent sent held queue outgoing incoming headers =
-    record { sent = sent; held = held; queue = queue; outgoing = outgoing; incoming = incoming; headers = headers }
+use Rattle.answers.specs.declared.step.Step.{Step}
 
 -- the stores have their lengths and the records are laid out as they should be
 unfoldable pub laidOut : Stream → Lent → Bool
@@ -32,9 +26,6 @@ onRecords call s t l = cond (laidOut s l) (call (seen s t l)) (refused BrokenRec
 
 abbrev pub segmentOf : ℕ → Option ℕ
 segmentOf n = cond (eqb n 0) none (some n)
-
-abbrev pub refusedStep : Stream → Totals → Refusal → Step
-refusedStep s t why = record { stream = s; totals = t; outcome = Refused why; count = 0; segment = 0 }
 
 -- an answer on the records, with the words and stores after the call, is this answer of the model
 pub record Agrees (a : Answer) (r : Step) (after : Lent) : Type 0 where

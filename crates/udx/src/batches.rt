@@ -1,58 +1,16 @@
 // Take (poll_transmit, to_transmit).
-ghost use mathlib.Core.Path.{_≡_};
-ghost use Rattle.udx.specs.Agree.{lent};
-ghost use Rattle.udx.specs.Refusals.{takeVerdict};
-ghost use Rattle.udx.specs.Take.{nothingStep, takenStep, Hands};
-use crate::refusals::broken;
-use crate::step::Step;
-use crate::step::refused;
-use constants::TAKE_ROOM;
-use error::Outcome;
-use error::Refusal;
+ghost use Rattle.answers.specs.Steps.{lent};
+ghost use Rattle.udx.specs.Take.{Hands};
+use answers::Step;
+use answers::broken;
+use answers::nothing;
+use answers::refused;
+use answers::take_verdict;
+use answers::taken_step;
 use error::Verdict;
-use error::refuse_if;
 use records::Stream;
 use records::Totals;
-use taking::Handed;
 use taking::next_batch;
-
-// Refusals 1 and 2, in this order.
-fn take_verdict(broken: bool, room: usize) -> Verdict
-    ensures { λ r. ⌜ r ≡ takeVerdict broken room ⌝ }
-{
-    let short = refuse_if(room < TAKE_ROOM, Refusal::ShortBuffer, Verdict::Clear);
-    refuse_if(broken, Refusal::BrokenRecords, short)
-}
-
-// "None when no batch of the last drive is left"
-fn nothing(stream: Stream, totals: Totals) -> Step
-    ensures { λ r. ⌜ r ≡ nothingStep stream totals ⌝ }
-{
-    Step {
-        stream,
-        totals,
-        outcome: Outcome::Nothing,
-        count: 0,
-        segment: 0,
-    }
-}
-
-// The step of the batch that was handed out.
-fn taken_step(s: Stream, totals: Totals, h: Handed) -> Step
-    ensures { λ r. ⌜ r ≡ takenStep s totals h ⌝ }
-{
-    let mut stream = s;
-    let queue = h.queue;
-    stream.queue = queue;
-    let outcome = Outcome::Ready;
-    Step {
-        stream,
-        totals,
-        outcome,
-        count: h.count,
-        segment: h.segment,
-    }
-}
 
 pub fn take(
     s: Stream,

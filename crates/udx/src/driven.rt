@@ -1,58 +1,17 @@
 // Drive (closed_and_drained, then poll_drive).
-ghost use mathlib.Core.Path.{_≡_};
 ghost use Rattle.model.specs.Driving as model;
-ghost use Rattle.udx.specs.Agree.{lent, Answers};
-ghost use Rattle.udx.specs.Drive.{doneStep, polledStep};
-use crate::refusals::broken;
-use crate::refusals::early_verdict;
-use crate::step::Step;
-use crate::step::refused;
-use error::Outcome;
+ghost use Rattle.answers.specs.Steps.{lent};
+ghost use Rattle.udx.specs.Agree.{Answers};
+use answers::Step;
+use answers::broken;
+use answers::done_step;
+use answers::early_verdict;
+use answers::polled_step;
+use answers::refused;
 use error::Verdict;
-use polling::Polled;
-use records::Ending;
 use records::Stream;
 use records::Totals;
 use rtt::Nanos;
-
-// "the answer is done and the stream has ended": an accepted drive, which settles nothing.
-fn done_step(s: Stream, t: Totals, clock: Nanos) -> Step
-    ensures { λ r. ⌜ r ≡ doneStep (clock .0) s t ⌝ }
-{
-    let before = s.ending;
-    let error = before.error;
-    let state = before.state;
-    let ending = Ending {
-        error,
-        state,
-        ended: true,
-    };
-    let mut stream = polling::clocked(s, clock);
-    stream.ending = ending;
-    let outcome = Outcome::Done;
-    Step {
-        stream,
-        totals: t,
-        outcome,
-        count: 0,
-        segment: 0,
-    }
-}
-
-fn polled_step(p: Polled) -> Step
-    ensures { λ r. ⌜ r ≡ polledStep p ⌝ }
-{
-    let stream = p.stream;
-    let totals = p.totals;
-    let outcome = Outcome::Ready;
-    Step {
-        stream,
-        totals,
-        outcome,
-        count: 0,
-        segment: 0,
-    }
-}
 
 pub fn drive(
     s: Stream,

@@ -19,10 +19,9 @@ mod datagrams;
 mod driven;
 mod looking;
 mod reading;
-mod refusals;
-mod step;
 mod writing;
 
+pub use answers::Step;
 pub use batches::take;
 pub use closed::close;
 pub use datagrams::deliver;
@@ -31,5 +30,4 @@ pub use looking::look;
 pub use packet::Header;
 pub use reading::read;
 pub use records::open;
-pub use step::Step;
 pub use writing::write;

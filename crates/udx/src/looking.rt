@@ -1,8 +1,8 @@
 // Look: the next datagram, without taking it.
 ghost use mathlib.Core.Path.{_≡_};
-ghost use Rattle.udx.specs.Agree.{lent};
+ghost use Rattle.answers.specs.Steps.{lent};
 ghost use Rattle.udx.specs.Look.{shownOf};
-use crate::refusals::broken;
+use answers::broken;
 use records::Stream;
 use records::Totals;
 

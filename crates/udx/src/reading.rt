@@ -1,46 +1,14 @@
 // Read (read_next, poll_read).
-ghost use mathlib.Core.Path.{_≡_};
-ghost use Rattle.udx.specs.Agree.{lent};
-ghost use Rattle.udx.specs.Read.{outcomeOf, readStep, Gives};
-use crate::refusals::broken;
-use crate::step::Step;
-use crate::step::refused;
-use error::Outcome;
+ghost use Rattle.answers.specs.Steps.{lent};
+ghost use Rattle.udx.specs.Read.{Gives};
+use answers::Step;
+use answers::broken;
+use answers::read_step;
+use answers::refused;
 use error::Refusal;
-use error::UdxError;
-use error::error_or;
 use receiving::Read;
 use records::Stream;
 use records::Totals;
-
-// "Ready only if a packet was finished, else the error, else waiting"
-fn read_outcome(finished: bool, error: UdxError) -> Outcome
-    ensures { λ r. ⌜ r ≡ outcomeOf finished error ⌝ }
-{
-    if finished {
-        return Outcome::Ready;
-    }
-    error_or(error, Outcome::Waiting)
-}
-
-// The step of what was read: bytes and new place are kept whatever the outcome is.
-fn read_step(s: Stream, totals: Totals, a: Read) -> Step
-    ensures { λ r. ⌜ r ≡ readStep s totals a ⌝ }
-{
-    let mut stream = s;
-    let receiver = a.receiver;
-    stream.receiver = receiver;
-    let ending = s.ending;
-    let error = ending.error;
-    let outcome = read_outcome(a.finished, error);
-    Step {
-        stream,
-        totals,
-        outcome,
-        count: a.count,
-        segment: 0,
-    }
-}
 
 pub fn read(
     s: Stream,

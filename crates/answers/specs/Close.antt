@@ -1,0 +1,10 @@
+-- A close that is not refused, on the records. Assumes nothing.
+use Rattle.error.specs.declared.Outcome.the-variants.{Ready}
+use Rattle.records.specs.declared.Ending.{Ending}
+use Rattle.records.specs.declared.Stream.{Stream}
+use Rattle.closing.specs.declared.Queued.{Queued}
+use Rattle.closing.specs.State.{withQueue, withEnding}
+use Rattle.answers.specs.declared.step.Step.{Step}
+
+abbrev pub closedStep : Stream → Ending → Queued → Step
+closedStep s x a = record { stream = withQueue (a .queue) (withEnding x s); totals = a .totals; outcome = Ready; count = 0; segment = 0 }

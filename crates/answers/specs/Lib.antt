@@ -1,0 +1,8 @@
+pub mod Steps
+pub mod Close
+pub mod Deliver
+pub mod Drive
+pub mod Read
+pub mod Refusals
+pub mod Take
+pub mod Write
