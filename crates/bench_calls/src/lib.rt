@@ -201,3 +201,34 @@ pub extern "C" fn udx_bench_read(
     let r = udx::read(s, t, sent, held, queue, outgoing, incoming, headers, buf);
     r.count
 }
+
+// One drive: the entries that it left to take and the numbers settled.
+#[no_mangle]
+pub extern "C" fn udx_bench_drive(
+    numbers: &[u64; 24],
+    sent: &mut [u64; 64],
+    held: &[u64; 32],
+    queue: &mut [u64; 128],
+    outgoing: &[u8],
+    incoming: &[u8],
+    headers: &mut [u8],
+    clock: u64,
+) -> u64 {
+    let s = stream(numbers);
+    let t = totals(numbers);
+    let r = udx::drive(
+        s,
+        t,
+        sent,
+        held,
+        queue,
+        outgoing,
+        incoming,
+        headers,
+        Nanos(clock),
+    );
+    let after = r.stream;
+    let left = after.queue.left as u64;
+    let settled = after.sender.remote_acked as u64;
+    left + settled
+}
