@@ -1,4 +1,6 @@
 // What bench/ times, as C functions on plain numbers. The order of `numbers` is that of `stream` and `totals` below.
+mod path;
+
 use error::Outcome;
 use error::UdxError;
 use records::Clocks;
@@ -58,7 +60,7 @@ fn timing(n: &[u64; 24]) -> Timing {
     }
 }
 
-fn stream(n: &[u64; 24]) -> Stream {
+pub fn stream(n: &[u64; 24]) -> Stream {
     let error = UdxError::None;
     let state = StreamState::Open;
     let ending = Ending {
@@ -68,7 +70,7 @@ fn stream(n: &[u64; 24]) -> Stream {
     };
     let ids = Ids {
         local: 1,
-        remote: 2,
+        remote: 1,
         segments: (n[18] % 256) as u8,
     };
     let clocks = Clocks {
@@ -86,7 +88,7 @@ fn stream(n: &[u64; 24]) -> Stream {
     }
 }
 
-fn totals(n: &[u64; 24]) -> Totals {
+pub fn totals(n: &[u64; 24]) -> Totals {
     Totals {
         tx_packets: 0,
         tx_bytes: 0,
