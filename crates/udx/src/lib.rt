@@ -28,6 +28,8 @@ pub use closed::close;
 pub use datagrams::deliver;
 pub use driven::drive;
 pub use looking::look;
+pub use packet::Header;
 pub use reading::read;
+pub use records::open;
 pub use step::Step;
 pub use writing::write;
