@@ -1,4 +1,6 @@
 // What bench/ times, as C functions on plain numbers. The order of `numbers` is that of `stream` and `totals` below.
+mod path;
+
 use error::Outcome;
 use error::UdxError;
 use records::Clocks;
@@ -58,7 +60,7 @@ fn timing(n: &[u64; 24]) -> Timing {
     }
 }
 
-fn stream(n: &[u64; 24]) -> Stream {
+pub fn stream(n: &[u64; 24]) -> Stream {
     let error = UdxError::None;
     let state = StreamState::Open;
     let ending = Ending {
@@ -68,7 +70,7 @@ fn stream(n: &[u64; 24]) -> Stream {
     };
     let ids = Ids {
         local: 1,
-        remote: 2,
+        remote: 1,
         segments: (n[18] % 256) as u8,
     };
     let clocks = Clocks {
@@ -86,7 +88,7 @@ fn stream(n: &[u64; 24]) -> Stream {
     }
 }
 
-fn totals(n: &[u64; 24]) -> Totals {
+pub fn totals(n: &[u64; 24]) -> Totals {
     Totals {
         tx_packets: 0,
         tx_bytes: 0,
@@ -200,4 +202,35 @@ pub extern "C" fn udx_bench_read(
     let t = totals(numbers);
     let r = udx::read(s, t, sent, held, queue, outgoing, incoming, headers, buf);
     r.count
+}
+
+// One drive: the entries that it left to take and the numbers settled.
+#[no_mangle]
+pub extern "C" fn udx_bench_drive(
+    numbers: &[u64; 24],
+    sent: &mut [u64; 64],
+    held: &[u64; 32],
+    queue: &mut [u64; 128],
+    outgoing: &[u8],
+    incoming: &[u8],
+    headers: &mut [u8],
+    clock: u64,
+) -> u64 {
+    let s = stream(numbers);
+    let t = totals(numbers);
+    let r = udx::drive(
+        s,
+        t,
+        sent,
+        held,
+        queue,
+        outgoing,
+        incoming,
+        headers,
+        Nanos(clock),
+    );
+    let after = r.stream;
+    let left = after.queue.left as u64;
+    let settled = after.sender.remote_acked as u64;
+    left + settled
 }
