@@ -10,5 +10,8 @@ time-out-packets-requires c κs = shrunk-stored (c .before .before .before .befo
 returns : tie.Need-returns
 returns c = loses _ _ _ _ _ _ _ (c .before .before .before .before .backed-off .ensures) (c .before .before .before .shrunk .ensures) (c .before .time-out-packets .ensures)
 
+backed-off-requires : tie.Need-backed-off-requires
+backed-off-requires c κs = let w = c .before .before .pre in (w .rto, w .early)
+
 pub consider-lost-spec : {M : Type 1} → statement M
-consider-lost-spec = tie.close (tie.spec (λ c κs. search needs) (λ c κs. search needs) time-out-packets-requires returns)
+consider-lost-spec = tie.close (tie.spec backed-off-requires (λ c κs. search needs) time-out-packets-requires returns)

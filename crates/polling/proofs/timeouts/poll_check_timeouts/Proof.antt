@@ -26,12 +26,15 @@ returns-3 c =
     let p = c .before .before .before .before .before .pre in
     checks-nothing _ _ _ _ _ _ (p .able .whole) (p .losable .stored) (subst (IsDue _ _ _) (c .if1 .left) (c .before .due .ensures))
 
+consider-lost-requires : tie.Need-consider-lost-requires
+consider-lost-requires c κs = c .before .before .before .before .before .before .pre .losable
+
 pub poll-check-timeouts-spec : {M : Type 1} → statement M
 poll-check-timeouts-spec =
     tie.close
     (tie.spec
     (λ c κs. search needs)
-    (λ c κs. search needs)
+    consider-lost-requires
     timed-out-requires
     (λ c. search needs)
     returns
