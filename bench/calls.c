@@ -1,8 +1,5 @@
 /* Times write and take, refusal 1 included: a write on a fresh stream, and a take of ten packets. */
-#include <stdint.h>
-#include <stdio.h>
-#include <string.h>
-#include <time.h>
+#include "timing.h"
 
 extern uint64_t udx_bench_write(const uint64_t *numbers, uint64_t *sent, const uint64_t *held, uint64_t *queue, uint8_t *outgoing, uint64_t,
                                 const uint8_t *incoming, uint64_t, const uint8_t *headers, uint64_t, const uint8_t *bytes, uint64_t);
@@ -11,12 +8,6 @@ extern uint64_t udx_bench_take(const uint64_t *numbers, uint64_t *sent, const ui
 
 static uint64_t numbers[24], sent[64], held[32], queue[128], fresh[64];
 static uint8_t outgoing[44800], incoming[44160], headers[1280], bytes[1380], buf[14000];
-
-static double now(void) {
-    struct timespec t;
-    clock_gettime(CLOCK_MONOTONIC, &t);
-    return t.tv_sec * 1e9 + t.tv_nsec;
-}
 
 /* A stream with ten packets of this payload stored and left to take, or none. */
 static void fill(unsigned stored, unsigned payload) {
@@ -36,32 +27,19 @@ static uint64_t one_write(unsigned payload) {
 }
 
 /* The marks are set back first, since a packet may be taken only so often. */
-static uint64_t one_take(unsigned payload) {
-    (void)payload;
+static uint64_t one_take(unsigned unused) {
+    (void)unused;
     memcpy(sent, fresh, sizeof fresh);
     return udx_bench_take(numbers, sent, held, queue, outgoing, sizeof outgoing, incoming, sizeof incoming, headers, sizeof headers, buf, sizeof buf);
 }
 
-static void report(const char *name, uint64_t (*call)(unsigned), unsigned stored, unsigned payload, uint64_t answer) {
-    const int rounds = 1000000;
-    uint64_t sum = 0;
-    double best = 1e18;
-    fill(stored, payload);
-    for (int pass = 0; pass < 5; pass++) {
-        double start = now();
-        for (int i = 0; i < rounds; i++)
-            sum += call(payload);
-        double ns = (now() - start) / rounds;
-        if (ns < best)
-            best = ns;
-    }
-    printf("%-32s %7.1f ns%s\n", name, best, sum == 5ull * rounds * answer ? "" : "  (another answer)");
-}
-
 int main(void) {
-    report("write of 1,380 bytes", one_write, 0, 1380, 1380);
-    report("write of 30 bytes", one_write, 0, 30, 30);
-    report("take of ten, 1,380 bytes each", one_take, 10, 1380, 14000);
-    report("take of ten, 30 bytes each", one_take, 10, 30, 500);
+    fill(0, 0);
+    report("write of 1,380 bytes", one_write, 1380, 1380);
+    report("write of 30 bytes", one_write, 30, 30);
+    fill(10, 1380);
+    report("take of ten, 1,380 bytes each", one_take, 0, 14000);
+    fill(10, 30);
+    report("take of ten, 30 bytes each", one_take, 0, 500);
     return 0;
 }

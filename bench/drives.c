@@ -1,20 +1,11 @@
 /* Times drive, refusal 1 included: one that queues 32 waiting packets, one that settles 32, and one that finds nothing to do. */
-#include <stdint.h>
-#include <stdio.h>
-#include <string.h>
-#include <time.h>
+#include "timing.h"
 
 extern uint64_t udx_bench_drive(const uint64_t *numbers, uint64_t *sent, const uint64_t *held, uint64_t *queue, const uint8_t *outgoing, uint64_t,
                                 const uint8_t *incoming, uint64_t, uint8_t *headers, uint64_t, uint64_t clock);
 
 static uint64_t numbers[24], sent[64], held[32], queue[128], fresh[64];
 static uint8_t outgoing[44800], incoming[44160], headers[1280];
-
-static double now(void) {
-    struct timespec t;
-    clock_gettime(CLOCK_MONOTONIC, &t);
-    return t.tv_sec * 1e9 + t.tv_nsec;
-}
 
 /* A stream with so many packets stored, all waiting or all sent once, and this largest ack. */
 static void fill(unsigned stored, unsigned waiting, unsigned largest) {
@@ -29,32 +20,18 @@ static void fill(unsigned stored, unsigned waiting, unsigned largest) {
 }
 
 /* The words of the stored packets are set back first. */
-static uint64_t one_drive(void) {
+static uint64_t one_drive(unsigned unused) {
+    (void)unused;
     memcpy(sent, fresh, sizeof fresh);
     return udx_bench_drive(numbers, sent, held, queue, outgoing, sizeof outgoing, incoming, sizeof incoming, headers, sizeof headers, 9);
 }
 
-static void report(const char *name, uint64_t answer) {
-    const int rounds = 1000000;
-    uint64_t sum = 0;
-    double best = 1e18;
-    for (int pass = 0; pass < 5; pass++) {
-        double start = now();
-        for (int i = 0; i < rounds; i++)
-            sum += one_drive();
-        double ns = (now() - start) / rounds;
-        if (ns < best)
-            best = ns;
-    }
-    printf("%-32s %7.1f ns%s\n", name, best, sum == 5ull * rounds * answer ? "" : "  (another answer)");
-}
-
 int main(void) {
     fill(32, 1, 0);
-    report("drive that queues 32 packets", 32);
+    report("drive that queues 32 packets", one_drive, 0, 32);
     fill(32, 0, 32);
-    report("drive that settles 32 packets", 32);
+    report("drive that settles 32 packets", one_drive, 0, 32);
     fill(0, 0, 0);
-    report("drive with nothing to do", 0);
+    report("drive with nothing to do", one_drive, 0, 0);
     return 0;
 }

@@ -1,10 +1,7 @@
 /* Times the whole path of a packet, refusal 1 included at every call: write, drive, take, deliver, read, its acks back, and the drive that
    settles it. A round has 32 packets between two ends, each of which has id 1; the time is that of one packet. */
-#include <stdint.h>
-#include <stdio.h>
+#include "timing.h"
 #include <stdlib.h>
-#include <string.h>
-#include <time.h>
 
 struct end {
     uint64_t numbers[24], sent[64], held[32], queue[128];
@@ -21,12 +18,6 @@ extern uint64_t udx_path_read(RECORDS, uint8_t *buf, uint64_t);
 
 static struct end a, b;
 static uint8_t bytes[1380], buf[14000], got[44160];
-
-static double now(void) {
-    struct timespec t;
-    clock_gettime(CLOCK_MONOTONIC, &t);
-    return t.tv_sec * 1e9 + t.tv_nsec;
-}
 
 /* A fresh stream at clock 0, with a window that never keeps a packet back. */
 static void open(struct end *e) {
@@ -55,7 +46,7 @@ static void round_of(unsigned payload, uint64_t clock) {
     udx_path_drive(LENT(&a), clock);
 }
 
-static void report(const char *name, unsigned payload) {
+static void report_path(const char *name, unsigned payload) {
     const int rounds = 20000;
     uint64_t clock = 0;
     double best = 1e18;
@@ -74,7 +65,7 @@ static void report(const char *name, unsigned payload) {
 }
 
 int main(void) {
-    report("path of a packet, 1,380 bytes", 1380);
-    report("path of a packet, 30 bytes", 30);
+    report_path("path of a packet, 1,380 bytes", 1380);
+    report_path("path of a packet, 30 bytes", 30);
     return 0;
 }

@@ -1,17 +1,9 @@
 /* Times refusal 1 on whole records: empty, one packet, and full (32 stored, 31 held, 95 entries queued). */
-#include <stdint.h>
-#include <stdio.h>
-#include <time.h>
+#include "timing.h"
 
 extern uint32_t udx_bench_rules(const uint64_t *numbers, const uint64_t *sent, const uint64_t *held, const uint64_t *queue);
 
 static uint64_t numbers[24], sent[64], held[32], queue[128];
-
-static double now(void) {
-    struct timespec t;
-    clock_gettime(CLOCK_MONOTONIC, &t);
-    return t.tv_sec * 1e9 + t.tv_nsec;
-}
 
 /* Records with so many packets stored, held and queued, and so many state packets queued. */
 static void fill(unsigned stored, unsigned holding, unsigned states) {
@@ -35,27 +27,21 @@ static void fill(unsigned stored, unsigned holding, unsigned states) {
         numbers[i] = values[i];
 }
 
-static void report(const char *name, unsigned stored, unsigned holding, unsigned states) {
-    const int rounds = 2000000;
-    uint64_t kept = 0;
-    double best = 1e18;
+static uint64_t one_test(unsigned unused) {
+    (void)unused;
+    return udx_bench_rules(numbers, sent, held, queue);
+}
+
+static void report_rules(const char *name, unsigned stored, unsigned holding, unsigned states) {
     fill(stored, holding, states);
-    for (int pass = 0; pass < 5; pass++) {
-        double start = now();
-        for (int i = 0; i < rounds; i++)
-            kept += udx_bench_rules(numbers, sent, held, queue);
-        double ns = (now() - start) / rounds;
-        if (ns < best)
-            best = ns;
-    }
-    printf("%-32s %7.1f ns%s\n", name, best, kept == 5ull * rounds ? "" : "  (refused)");
+    report(name, one_test, 0, 1);
 }
 
 int main(void) {
-    report("empty", 0, 0, 0);
-    report("1 stored, 1 held, 1 state", 1, 1, 1);
-    report("8 stored, 4 held, 4 states", 8, 4, 4);
-    report("32 stored and queued", 32, 0, 0);
-    report("full: 32 stored, 31 held, 95 queued", 32, 31, 63);
+    report_rules("empty", 0, 0, 0);
+    report_rules("1 stored, 1 held, 1 state", 1, 1, 1);
+    report_rules("8 stored, 4 held, 4 states", 8, 4, 4);
+    report_rules("32 stored and queued", 32, 0, 0);
+    report_rules("full: 32 stored, 31 held, 95 queued", 32, 31, 63);
     return 0;
 }
