@@ -1,4 +1,4 @@
-// Take (poll_transmit, to_transmit).
+// What a take answers: refusals 1 and 2, none, or the batch handed out.
 ghost use mathlib.Core.Path.{_≡_};
 ghost use Rattle.answers.specs.Refusals.{takeVerdict};
 ghost use Rattle.answers.specs.Take.{nothingStep, takenStep};

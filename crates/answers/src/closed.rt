@@ -1,4 +1,4 @@
-// Close (terminate with ConnectionReset).
+// What a close answers: refusals 1, 5, 6 and 13, or the stream that has ended.
 ghost use mathlib.Core.Path.{_≡_};
 ghost use Rattle.answers.specs.Close.{closedStep};
 ghost use Rattle.answers.specs.Refusals.{closeVerdict};

@@ -1,4 +1,4 @@
-// Deliver (process_packet, then handle_incoming).
+// What a delivery answers: refusals 8 to 13, which look at its header, or the stream after it.
 ghost use mathlib.Core.Path.{_≡_};
 ghost use mathlib.Core.Bool.{_&&_};
 ghost use Prim.Native.Nat.{_+_};

@@ -1,4 +1,4 @@
-// Drive (closed_and_drained, then poll_drive).
+// What a drive answers that is not refused: done, or the stream after the poll.
 ghost use mathlib.Core.Path.{_≡_};
 ghost use Rattle.answers.specs.Drive.{doneStep, polledStep};
 use crate::step::Step;

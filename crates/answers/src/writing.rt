@@ -1,4 +1,4 @@
-// Write (poll_write over send_data_packet).
+// What a write answers: refusals 1, 6 and 14 to 17, or the bytes accepted.
 ghost use mathlib.Core.Path.{_≡_};
 ghost use mathlib.Core.Bool.{_&&_, not};
 ghost use lib.Dec.{leb};
