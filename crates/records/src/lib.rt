@@ -105,8 +105,9 @@ pub struct Stream {
     pub receiver: Receiver,
     pub queue: Queue,
     pub timing: Timing,
-    pub ending: Ending,
     pub clocks: Clocks,
+    // Last: its three bytes would put what follows at odd places, and copies of that are slow.
+    pub ending: Ending,
 }
 
 // The Rust's StreamStats.

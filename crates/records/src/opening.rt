@@ -99,8 +99,8 @@ fn fresh_stream(local: u32, remote: u32, segments: u8, clock: Nanos) -> Stream
         receiver,
         queue,
         timing,
-        ending,
         clocks,
+        ending,
     }
 }
 
