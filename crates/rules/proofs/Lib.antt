@@ -1,11 +1,1 @@
-pub mod Entries
-pub mod From
-pub mod Held
-pub mod Marks
-pub mod Pieces
-pub mod Queued
 pub mod Seen
-pub mod SeenPackets
-pub mod SeenQueue
-pub mod SeenStore
-pub mod Stored

@@ -13,8 +13,8 @@ use Rattle.records.specs.declared.Totals.{Totals}
 use Rattle.records.specs.Seen.{Lent, seen, formed, formedReceiver, formedQueue}
 use Rattle.rules.specs.Ok.{okStream}
 use Rattle.rules.specs.Statement.{RefusalOne, NeverRefused}
-use Rattle.rules.proofs.SeenPackets.{sender-seen, receiver-seen}
-use Rattle.rules.proofs.SeenQueue.{queue-seen}
+use Rattle.packet_rules.proofs.SeenPackets.{sender-seen, receiver-seen}
+use Rattle.queue_rules.proofs.SeenQueue.{queue-seen}
 
 -- the same tests, in the order of the records' groups and in the model's order
 order : (segments rtt clocks numbers stored sums cwnd top cursor held places queue : Bool)

@@ -1,3 +1,2 @@
 pub mod Ok
-pub mod Passes
 pub mod Statement

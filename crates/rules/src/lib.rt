@@ -3,24 +3,18 @@
 ghost use mathlib.Core.Path.{_≡_};
 ghost use Rattle.model.specs.Rules.{segmentsRange, rttRanges};
 ghost use Rattle.rules.specs.Ok.{clocksOk, okStream};
-
-mod picks;
-mod queue;
-mod receiver;
-mod sender;
-
 use constants::CLOCK_END;
 use constants::MAX_SEGMENTS;
 use constants::RTO_MAX;
 use constants::RTO_MIN;
+use packet_rules::ok_receiver;
+use packet_rules::ok_sender;
 use picks::both;
-use queue::ok_queue;
-use receiver::ok_receiver;
+use queue_rules::ok_queue;
 use records::Clocks;
 use records::Stream;
 use records::Totals;
 use rtt::Rtt;
-use sender::ok_sender;
 
 // "the segment ceiling is 1 to 10"
 fn ok_segments(most: u8) -> bool

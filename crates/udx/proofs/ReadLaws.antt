@@ -26,7 +26,8 @@ use Rattle.records.specs.declared.Totals.{Totals}
 use Rattle.records.specs.Put.{put}
 use Rattle.records.specs.Words.{heldOf, isHeld}
 use Rattle.records.specs.Seen.{Lent, seen, formedReceiver}
-use Rattle.rules.specs.Ok.{okStream, okReceiver, okSender, everyFrom, heldOk, clocksOk}
+use Rattle.rules.specs.Ok.{okStream, clocksOk}
+use Rattle.packet_rules.specs.Packets.{okReceiver, okSender, everyFrom, heldOk}
 use Rattle.receiving.specs.declared.Read.{Read}
 use Rattle.receiving.specs.Reading.{HeldFit, Readable, HasRead}
 use Rattle.receiving.proofs.LaidLaws.{laid-said, laid-says}

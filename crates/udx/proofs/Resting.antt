@@ -20,7 +20,8 @@ use Rattle.records.specs.Words.{isStored}
 use Rattle.records.specs.Seen.{Lent, sentIn, outgoingSlotAt, seen, seenOutgoing, seenQueue, entryWords}
 use Rattle.records.proofs.Table.{table-length}
 use Rattle.records.proofs.SeenQueue.{entries-length, rest-length}
-use Rattle.rules.specs.Ok.{okStream, okSender, sumFrom, packetsAt, clocksOk, senderNumbersOk, everyFrom, storedOk, sumsOk, inflightAt}
+use Rattle.rules.specs.Ok.{okStream, clocksOk}
+use Rattle.packet_rules.specs.Packets.{okSender, sumFrom, packetsAt, senderNumbersOk, everyFrom, storedOk, sumsOk, inflightAt}
 use Rattle.sending.specs.Write.{Ready}
 use Rattle.answers.specs.Write.{outboxOf}
 use Rattle.udx.proofs.Unbroken.{Whole}

@@ -3,7 +3,7 @@
 use mathlib.Core.Path.{sym, _∙_}
 use mathlib.Core.Bool.{and-false}
 use Rattle.rules.specs.Ok.{okStream}
-use Rattle.rules.proofs.Stored.{near-of}
+use Rattle.packet_rules.proofs.Stored.{near-of}
 use borrow.Author.Needs.{needs}
 use Rattle.rules.proofs.ok_stream.Statement.{statement}
 use Rattle.rules.proofs.ok_stream.Tie as tie
