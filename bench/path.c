@@ -1,5 +1,5 @@
 /* Times the whole path of a packet, refusal 1 included at every call: write, drive, take, deliver, read, its acks back, and the drive that
-   settles it. A round has 32 packets between two ends, each of which has id 1; the time is that of one packet. */
+   settles it. A round has 32 packets, one write and one read each, between two ends, each of which has id 1; the time is that of one packet. */
 #include "timing.h"
 #include <stdlib.h>
 
@@ -9,15 +9,15 @@ struct end {
 };
 
 #define RECORDS uint64_t *numbers, uint64_t *sent, uint64_t *held, uint64_t *queue, uint8_t *outgoing, uint64_t, uint8_t *incoming, uint64_t, uint8_t *headers, uint64_t
-extern uint64_t udx_path_write(RECORDS, const uint8_t *bytes, uint64_t);
-extern uint64_t udx_path_drive(RECORDS, uint64_t clock);
-extern uint64_t udx_path_take(RECORDS, uint8_t *buf, uint64_t);
-extern uint64_t udx_path_deliver(RECORDS, const uint8_t *datagram, uint64_t, uint64_t clock);
-extern uint64_t udx_path_read(RECORDS, uint8_t *buf, uint64_t);
+#define OTHERS uint64_t *, uint64_t *, uint64_t *, uint64_t *, uint8_t *, uint64_t, uint8_t *, uint64_t, uint8_t *, uint64_t
+extern void udx_path_write(RECORDS, const uint8_t *bytes, uint64_t);
+extern void udx_path_drive(RECORDS, uint64_t clock);
+extern uint64_t udx_path_carry(RECORDS, OTHERS, uint8_t *buf, uint64_t, uint64_t clock);
+extern void udx_path_read(RECORDS, uint8_t *buf, uint64_t);
 #define LENT(e) (e)->numbers, (e)->sent, (e)->held, (e)->queue, (e)->outgoing, 44800, (e)->incoming, 44160, (e)->headers, 1280
 
 static struct end a, b;
-static uint8_t bytes[1380], buf[14000], got[44160];
+static uint8_t bytes[1380], buf[14000];
 
 /* A fresh stream at clock 0, with a window that never keeps a packet back. */
 static void open(struct end *e) {
@@ -27,22 +27,14 @@ static void open(struct end *e) {
     e->numbers[18] = 10;
 }
 
-/* All that one end has to send, handed to the other: batches cut at `size`. */
-static void carry(struct end *from, struct end *to, unsigned size, uint64_t clock) {
-    uint64_t n;
-    udx_path_drive(LENT(from), clock);
-    while ((n = udx_path_take(LENT(from), buf, sizeof buf)) != 0)
-        for (uint64_t at = 0; at < n; at += size)
-            udx_path_deliver(LENT(to), buf + at, size, clock);
-}
-
 static void round_of(unsigned payload, uint64_t clock) {
-    for (int i = 0; i < 32; i++)
-        udx_path_write(LENT(&a), bytes, payload);
-    carry(&a, &b, payload + 20, clock);
-    if (udx_path_read(LENT(&b), got, sizeof got) != 32ull * payload)
+    udx_path_write(LENT(&a), bytes, payload);
+    udx_path_drive(LENT(&a), clock);
+    if (udx_path_carry(LENT(&a), LENT(&b), buf, sizeof buf, clock) != 32)
         exit(1);
-    carry(&b, &a, 20, clock);
+    udx_path_read(LENT(&b), buf, payload);
+    udx_path_drive(LENT(&b), clock);
+    udx_path_carry(LENT(&b), LENT(&a), buf, sizeof buf, clock);
     udx_path_drive(LENT(&a), clock);
 }
 
@@ -60,8 +52,9 @@ static void report_path(const char *name, unsigned payload) {
         if (ns < best)
             best = ns;
     }
-    int settled = a.numbers[0] == 5ull * rounds * 32 && a.numbers[1] == a.numbers[0];
-    printf("%-32s %7.1f ns%s\n", name, best, settled ? "" : "  (not all settled)");
+    uint64_t written = 5ull * rounds * 32;
+    int settled = a.numbers[0] == written && a.numbers[1] == written && b.numbers[6] == written;
+    printf("%-32s %7.1f ns%s\n", name, best, settled ? "" : "  (not all read and settled)");
 }
 
 int main(void) {

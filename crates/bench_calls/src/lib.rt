@@ -1,6 +1,4 @@
 // What bench/ times, as C functions on plain numbers. The order of `numbers` is that of `stream` and `totals` below.
-mod path;
-
 use error::Outcome;
 use error::UdxError;
 use records::Clocks;
