@@ -38,7 +38,8 @@ use Rattle.delivering.specs.Handle.{Deliverable, Handled, withDelivered}
 use Rattle.answers.specs.Steps.{refusedStep}
 use Rattle.udx.specs.Agree.{laidOut, onRecords, Agrees, Answers}
 use Rattle.answers.specs.Deliver.{deliveredStep}
-use Rattle.answers.specs.Refusals.{brokenRecords, verdictOf, earlyVerdict, headerVerdict}
+use Rattle.broken_records.specs.Broken.{brokenRecords}
+use Rattle.refusals.specs.Verdicts.{verdictOf, earlyVerdict, headerVerdict}
 use Rattle.udx.proofs.EarlyLaws.{early-says, early-clear, early-clock}
 use Rattle.udx.proofs.RefusalLaws.{line, clear-line, is-refused, is-clear, acts-on, whyOf, refused-answers}
 use Rattle.udx.proofs.Resting.{ready}

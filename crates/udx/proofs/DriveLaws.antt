@@ -28,7 +28,8 @@ use Rattle.polling.specs.Poll.{Drivable, Polls}
 use Rattle.answers.specs.Steps.{refusedStep}
 use Rattle.udx.specs.Agree.{onRecords, Agrees, Answers}
 use Rattle.answers.specs.Drive.{doneStep, polledStep}
-use Rattle.answers.specs.Refusals.{brokenRecords, earlyVerdict}
+use Rattle.broken_records.specs.Broken.{brokenRecords}
+use Rattle.refusals.specs.Verdicts.{earlyVerdict}
 use Rattle.udx.proofs.EarlyLaws.{early-says, early-clear, early-clock}
 use Rattle.udx.proofs.RefusalLaws.{is-refused, is-clear, acts-on, refused-answers}
 use Rattle.udx.proofs.Resting.{ready}

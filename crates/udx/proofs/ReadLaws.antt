@@ -32,7 +32,8 @@ use Rattle.receiving.specs.Reading.{HeldFit, Readable, HasRead}
 use Rattle.receiving.proofs.LaidLaws.{laid-said, laid-says}
 use Rattle.answers.specs.Steps.{refusedStep}
 use Rattle.udx.specs.Agree.{onRecords, Agrees}
-use Rattle.answers.specs.Refusals.{brokenRecords, verdictOf}
+use Rattle.broken_records.specs.Broken.{brokenRecords}
+use Rattle.refusals.specs.Verdicts.{verdictOf}
 use Rattle.answers.specs.Read.{outcomeOf, readStream, readStep}
 use Rattle.udx.specs.Read.{readLent, Gives}
 use Rattle.udx.proofs.RefusalLaws.{refusal-one, whyOf, is-refused, is-clear, acts-on, refused-agrees, puts-nothing}

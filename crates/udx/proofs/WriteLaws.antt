@@ -26,7 +26,8 @@ use Rattle.sending.specs.Write as sending
 use Rattle.answers.specs.declared.step.Step.{Step}
 use Rattle.answers.specs.Steps.{refusedStep}
 use Rattle.udx.specs.Agree.{onRecords, Agrees, Answers}
-use Rattle.answers.specs.Refusals.{brokenRecords, verdictOf, writeVerdict}
+use Rattle.broken_records.specs.Broken.{brokenRecords}
+use Rattle.refusals.specs.Verdicts.{verdictOf, writeVerdict}
 use Rattle.answers.specs.Write.{outboxOf, outcomeOf, writtenStep}
 use Rattle.udx.proofs.RefusalLaws.{write-list, is-refused, is-clear, acts-on, whyOf, clear-line, refused-answers}
 use Rattle.udx.proofs.Resting.{ready}
