@@ -11,7 +11,7 @@ use Rattle.packet.specs.Header.{headerBytes}
 use Rattle.model.specs.Lists.{Bytes}
 use Rattle.model.specs.Stream as model
 use Rattle.model.specs.Sending.{isSet, stateType, pushed, countState}
-use Rattle.records.specs.declared.words.Entry.{Entry}
+use Rattle.words.specs.declared.Entry.{Entry}
 use Rattle.records.specs.declared.Ending.{Ending}
 use Rattle.records.specs.declared.Queue.{Queue}
 use Rattle.records.specs.declared.Stream.{Stream}

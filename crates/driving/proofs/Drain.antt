@@ -18,8 +18,8 @@ use Rattle.model.specs.Driving.{anyStored}
 use Rattle.model.specs.Driving as drive
 use Rattle.records.specs.declared.Sender.{Sender}
 use Rattle.records.specs.declared.Queue.{Queue}
-use Rattle.records.specs.Words.{isStored}
-use Rattle.records.specs.Seen.{packetOf, sentIn, seen, seenOutgoing, seenQueue, seenEntries, entryWords}
+use Rattle.words.specs.Words.{sentIn, isStored}
+use Rattle.records.specs.Seen.{packetOf, seen, seenOutgoing, seenQueue, seenEntries, entryWords}
 use Rattle.records.proofs.SeenOutgoing.{get-outgoing}
 use Rattle.records.proofs.SeenQueue.{words-rest, entries-length, queue-drive}
 use Rattle.records.proofs.FormedQueue.{formed-drive}

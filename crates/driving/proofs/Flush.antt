@@ -16,13 +16,13 @@ use Rattle.model.specs.Stream as model
 use Rattle.model.specs.Sending.{pushed}
 use Rattle.model.specs.Driving.{flushedMarks, flushed, fits, flushLoop, flush}
 use Rattle.model.proofs.Gate.{and-left, and-right}
-use Rattle.records.specs.declared.words.Sent.{Sent}
+use Rattle.words.specs.declared.Sent.{Sent}
 use Rattle.records.specs.declared.Sender.{Sender}
 use Rattle.records.specs.declared.Queue.{Queue}
-use Rattle.records.specs.Words.{isStored, entryOf, entryWord}
+use Rattle.words.specs.Words.{sentIn, isStored, entryOf, entryWord}
 use Rattle.records.specs.Cut.{outgoingSlot}
-use Rattle.records.specs.Seen.{packetOf, sentIn, seen, seenSender, seenQueue, QueueFormed, withSent}
-use Rattle.records.proofs.WordLaws.{stored-number, entry-back}
+use Rattle.records.specs.Seen.{packetOf, seen, seenSender, seenQueue, QueueFormed, withSent}
+use Rattle.words.proofs.WordLaws.{stored-number, entry-back}
 use Rattle.records.proofs.Cut.{cut-length}
 use Rattle.records.proofs.SeenOutgoing.{get-outgoing}
 use Rattle.records.proofs.SeenQueue.{queue-packet}

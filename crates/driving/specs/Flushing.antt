@@ -5,13 +5,13 @@ use mathlib.Core.List.{List}
 use mathlib.Core.Bool.{false}
 use lib.ListN.{set}
 use Rattle.model.specs.Driving as drive
-use Rattle.records.specs.declared.words.Sent.{Sent}
-use Rattle.records.specs.declared.words.Entry.{Entry}
+use Rattle.words.specs.declared.Sent.{Sent}
+use Rattle.words.specs.declared.Entry.{Entry}
 use Rattle.records.specs.declared.Sender.{Sender}
 use Rattle.records.specs.declared.Queue.{Queue}
 use Rattle.records.specs.declared.Stream.{Stream}
 use Rattle.records.specs.declared.Totals.{Totals}
-use Rattle.records.specs.Words.{entryWord}
+use Rattle.words.specs.Words.{entryWord}
 use Rattle.records.specs.Seen.{Lent, seen, QueueFormed, withSent}
 use Rattle.driving.specs.declared.flushing.Flushed.{Flushed}
 use Rattle.driving.specs.Packets.{Stored, withInflight}

@@ -3,7 +3,7 @@ ghost use mathlib.Core.Path.{_≡_};
 ghost use mathlib.Core.Bool.{_&&_};
 ghost use Prim.Native.Nat.{_+_, _<_};
 ghost use lib.Dec.{leb};
-ghost use Rattle.records.specs.Words.{isStored};
+ghost use Rattle.words.specs.Words.{isStored};
 ghost use Rattle.driving.specs.Flushing.{flushedPacket, flushedEntry, withCount, flushedOf, FlushesPacket, Roomy, Flushes};
 use crate::inflight::with_inflight;
 use records::Entry;

@@ -16,13 +16,13 @@ use Rattle.model.specs.Stream as model
 use Rattle.model.specs.Driving as drive
 use Rattle.model.proofs.Slots.{no-some, some-inj}
 use Rattle.model.proofs.AliveBlocks.{one-length}
-use Rattle.records.specs.declared.words.Sent.{Sent}
+use Rattle.words.specs.declared.Sent.{Sent}
 use Rattle.records.specs.declared.Sender.{Sender}
 use Rattle.records.specs.declared.Stream.{Stream}
 use Rattle.records.specs.declared.Totals.{Totals}
-use Rattle.records.specs.Words.{isStored}
+use Rattle.words.specs.Words.{sentIn, isStored}
 use Rattle.records.specs.Cut.{outgoingSlot}
-use Rattle.records.specs.Seen.{Lent, seen, seenOutgoing, sentIn, marksOf, packetOf}
+use Rattle.records.specs.Seen.{Lent, seen, seenOutgoing, marksOf, packetOf}
 use Rattle.records.proofs.Cut.{cut-length}
 use Rattle.records.proofs.SeenOutgoing.{outgoing-length, get-outgoing}
 use Rattle.acking.specs.declared.Acks.{Acks}

@@ -15,8 +15,8 @@ use Rattle.model.specs.Stream as model
 use Rattle.model.specs.Rules.{every, states, numbers, entryTest, queueTest}
 use Rattle.records.specs.declared.Sender.{Sender}
 use Rattle.records.specs.declared.Queue.{Queue}
-use Rattle.records.specs.Words.{isStored, entryOf}
-use Rattle.records.specs.Seen.{sentIn, packetOf, seenOutgoing, seenSender, entryWords, seenEntries, seenQueue, formedQueue}
+use Rattle.words.specs.Words.{sentIn, isStored, entryOf}
+use Rattle.records.specs.Seen.{packetOf, seenOutgoing, seenSender, entryWords, seenEntries, seenQueue, formedQueue}
 use Rattle.rules.specs.Ok.{storedLength, sameLength, entriesOk, stateCount, packetNumbers, atRestOk, toTakeOk, okQueue}
 use Rattle.rules.proofs.Pieces.{cut-length}
 use Rattle.rules.proofs.SeenPackets.{outgoing-found}

@@ -9,16 +9,16 @@ use lib.Dec.{ltb, leb, eqb}
 use lib.ListN.{length, getD}
 use Rattle.model.specs.Slots.{ceiling}
 use Rattle.model.specs.Rules.{distinct, every, storedRule, heldRule, rttRanges, cwndRange, segmentsRange}
-use Rattle.records.specs.declared.words.Sent.{Sent}
-use Rattle.records.specs.declared.words.Entry.{Entry}
+use Rattle.words.specs.declared.Sent.{Sent}
+use Rattle.words.specs.declared.Entry.{Entry}
 use Rattle.records.specs.declared.Sender.{Sender}
 use Rattle.records.specs.declared.Receiver.{Receiver}
 use Rattle.records.specs.declared.Queue.{Queue}
 use Rattle.records.specs.declared.Clocks.{Clocks}
 use Rattle.records.specs.declared.Stream.{Stream}
 use Rattle.records.specs.declared.Totals.{Totals}
-use Rattle.records.specs.Words.{isStored, heldOf, isHeld, entryOf}
-use Rattle.records.specs.Seen.{sentIn, entryWords, formedReceiver}
+use Rattle.words.specs.Words.{sentIn, isStored, heldOf, isHeld, entryOf}
+use Rattle.records.specs.Seen.{entryWords, formedReceiver}
 
 -- tests and sums over `count` numbers from n on
 

@@ -8,11 +8,10 @@ use lib.Dec.{leb, ltb, eqb}
 use Rattle.model.specs.Lists.{on}
 use Rattle.model.specs.Slots.{ceiling}
 use Rattle.model.specs.Rules.{distinct, every}
-use Rattle.records.specs.declared.words.Sent.{Sent}
-use Rattle.records.specs.declared.words.Held.{Held}
-use Rattle.records.specs.declared.words.Entry.{Entry}
-use Rattle.records.specs.Words.{isStored, isSized, isShort, entryOf, samePacket}
-use Rattle.records.specs.Seen.{sentIn}
+use Rattle.words.specs.declared.Sent.{Sent}
+use Rattle.words.specs.declared.Held.{Held}
+use Rattle.words.specs.declared.Entry.{Entry}
+use Rattle.words.specs.Words.{sentIn, isStored, isSized, isShort, entryOf, samePacket}
 use Rattle.rules.specs.Ok.{everyFrom, sumFrom, timeSent, storedOk, inflightAt, packetsAt, payloadAt, stateCount, packetNumbers}
 
 -- a stored packet

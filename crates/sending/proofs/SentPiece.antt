@@ -19,9 +19,9 @@ use Rattle.records.specs.declared.Sender.{Sender}
 use Rattle.records.specs.declared.Queue.{Queue}
 use Rattle.records.specs.declared.Totals.{Totals}
 use Rattle.records.specs.declared.Stream.{Stream}
-use Rattle.records.specs.Words.{sentOf, sentWord, sentTime, entryOf, entryWord}
+use Rattle.words.specs.Words.{sentOf, sentWord, sentTime, entryOf, entryWord}
 use Rattle.records.specs.Seen.{Lent, seen, seenSender, seenQueue, seenTotals, seenOutgoing, formedQueue}
-use Rattle.records.proofs.WordLaws.{sent-back, entry-back}
+use Rattle.words.proofs.WordLaws.{sent-back, entry-back}
 use Rattle.records.proofs.Put.{put-length}
 use Rattle.records.proofs.SeenOutgoing.{write-outgoing}
 use Rattle.records.proofs.SeenQueue.{queue-packet}

@@ -8,12 +8,12 @@ use lib.ListN.{length, set}
 use Rattle.packet.specs.declared.header.Header.{Header}
 use Rattle.packet.specs.Header.{headerBytes}
 use Rattle.rtt.specs.Estimate.{nanos}
-use Rattle.records.specs.declared.words.Sent.{Sent}
-use Rattle.records.specs.declared.words.Entry.{Entry}
+use Rattle.words.specs.declared.Sent.{Sent}
+use Rattle.words.specs.declared.Entry.{Entry}
 use Rattle.records.specs.declared.Sender.{Sender}
 use Rattle.records.specs.declared.Queue.{Queue}
 use Rattle.records.specs.declared.Totals.{Totals}
-use Rattle.records.specs.Words.{sentWord, sentTime, entryWord}
+use Rattle.words.specs.Words.{sentWord, sentTime, entryWord}
 use Rattle.records.specs.Put.{put}
 use Rattle.sending.specs.declared.Outbox.{Outbox}
 

@@ -10,7 +10,7 @@ use lib.Seq.{take-suc, drop-cons, split-at, getD-take, getD-drop}
 use Rattle.model.specs.Lists.{Bytes}
 use Rattle.model.specs.Stream as model
 use Rattle.records.specs.declared.Queue.{Queue}
-use Rattle.records.specs.Words.{entryOf}
+use Rattle.words.specs.Words.{entryOf}
 use Rattle.records.specs.Seen.{seenEntries, entryWords, stateWords}
 use Rattle.records.proofs.SeenQueue.{words-append, entries-drop, words-left}
 use Rattle.taking.specs.Take.{entrySeen}

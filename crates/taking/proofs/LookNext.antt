@@ -15,12 +15,12 @@ use Rattle.model.specs.Lists.{Bytes}
 use Rattle.model.specs.Slots.{ceiling}
 use Rattle.model.specs.Stream as model
 use Rattle.model.specs.Driving.{firstThere, look}
-use Rattle.records.specs.declared.words.Entry.{Entry}
+use Rattle.words.specs.declared.Entry.{Entry}
 use Rattle.records.specs.declared.Sender.{Sender}
 use Rattle.records.specs.declared.Queue.{Queue}
-use Rattle.records.specs.Words.{entryOf}
+use Rattle.words.specs.Words.{sentIn, entryOf}
 use Rattle.records.specs.Cut.{cut, outgoingSlot, headerSlot}
-use Rattle.records.specs.Seen.{sentIn, seenEntries, seenQueue, entryWords, seen, stateWords, QueueFormed}
+use Rattle.records.specs.Seen.{seenEntries, seenQueue, entryWords, seen, stateWords, QueueFormed}
 use Rattle.records.proofs.SeenQueue.{left-length, entries-length}
 use Rattle.taking.specs.declared.Next.{Next}
 use Rattle.taking.specs.Take.{Stored, Kept, storeSeen, isThere, nextSeen, nextBytes, Finds, Shows}

@@ -15,7 +15,7 @@ use Rattle.model.specs.Driving.{headLength, sameLength, batch}
 use Rattle.records.specs.declared.Queue.{Queue}
 use Rattle.records.specs.declared.Stream.{Stream}
 use Rattle.records.specs.declared.Totals.{Totals}
-use Rattle.records.specs.Words.{entryOf}
+use Rattle.words.specs.Words.{entryOf}
 use Rattle.records.specs.Cut.{headerSlot}
 use Rattle.records.specs.Seen.{seenEntries, seenQueue, entryWords, Lent, seen}
 use Rattle.records.proofs.Cut.{cut-length}

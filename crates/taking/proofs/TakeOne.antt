@@ -15,14 +15,14 @@ use Rattle.model.specs.Slots.{Slots, ceiling, get, insert}
 use Rattle.model.specs.Stream as model
 use Rattle.model.specs.Driving.{marked, takenMarks}
 use Rattle.model.proofs.Gate.{and-left, and-right}
-use Rattle.records.specs.declared.words.Sent.{Sent}
-use Rattle.records.specs.declared.words.Entry.{Entry}
+use Rattle.words.specs.declared.Sent.{Sent}
+use Rattle.words.specs.declared.Entry.{Entry}
 use Rattle.records.specs.declared.Sender.{Sender}
-use Rattle.records.specs.Words.{sentOf, sentWord, sentTime, isStored}
+use Rattle.words.specs.Words.{sentOf, sentIn, sentWord, sentTime, isStored}
 use Rattle.records.specs.Cut.{cut, outgoingSlot, headerSlot}
 use Rattle.records.specs.Put.{put}
-use Rattle.records.specs.Seen.{packetOf, sentIn, withSent}
-use Rattle.records.proofs.WordLaws.{sent-back, stored-number, stored-full}
+use Rattle.records.specs.Seen.{packetOf, withSent}
+use Rattle.words.proofs.WordLaws.{sent-back, stored-number, stored-full}
 use Rattle.records.proofs.Cut.{out-is, head-is, cut-length, cut-whole}
 use Rattle.records.proofs.SeenOutgoing.{get-outgoing, get-settled, get-unsent, remark-outgoing}
 use Rattle.taking.specs.declared.Progress.{Progress}

@@ -12,16 +12,16 @@ use Rattle.model.specs.Slots.{Slots, ceiling, get, insert}
 use Rattle.model.specs.Stream as model
 use Rattle.model.specs.Rules.{rules}
 use Rattle.model.specs.Driving.{headLength, batch, marked, takenMarks, takeLoop, takenFrom, firstThere, look}
-use Rattle.records.specs.declared.words.Sent.{Sent}
-use Rattle.records.specs.declared.words.Entry.{Entry}
+use Rattle.words.specs.declared.Sent.{Sent}
+use Rattle.words.specs.declared.Entry.{Entry}
 use Rattle.records.specs.declared.Sender.{Sender}
 use Rattle.records.specs.declared.Queue.{Queue}
 use Rattle.records.specs.declared.Stream.{Stream}
 use Rattle.records.specs.declared.Totals.{Totals}
-use Rattle.records.specs.Words.{isStored}
+use Rattle.words.specs.Words.{sentIn, isStored}
 use Rattle.records.specs.Cut.{cut, outgoingSlot, headerSlot}
 use Rattle.records.specs.Put.{put}
-use Rattle.records.specs.Seen.{sentIn, seenOutgoing, seenQueue, entryWords, Lent, seen, withSent, stateWords, QueueFormed}
+use Rattle.records.specs.Seen.{seenOutgoing, seenQueue, entryWords, Lent, seen, withSent, stateWords, QueueFormed}
 use Rattle.rtt.specs.Estimate.{nanos}
 use Rattle.taking.specs.declared.Handed.{Handed}
 use Rattle.taking.specs.declared.Progress.{Progress}

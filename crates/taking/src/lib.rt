@@ -5,7 +5,7 @@ ghost use mathlib.Core.Bool.{true, _&&_};
 ghost use Prim.Native.Nat.{_+_, _-_, _<_, _≤_};
 ghost use lib.Dec.{leb, ltb};
 ghost use lib.ListN.{length, getD};
-ghost use Rattle.records.specs.Words.{isStored, entryOf};
+ghost use Rattle.words.specs.Words.{isStored, entryOf};
 ghost use Rattle.records.specs.Seen.{entryWords, QueueFormed};
 ghost use Rattle.taking.specs.Take.{
   entrySize,

@@ -24,7 +24,7 @@ use Rattle.records.specs.declared.Receiver.{Receiver}
 use Rattle.records.specs.declared.Stream.{Stream}
 use Rattle.records.specs.declared.Totals.{Totals}
 use Rattle.records.specs.Put.{put}
-use Rattle.records.specs.Words.{heldOf, isHeld}
+use Rattle.words.specs.Words.{heldOf, isHeld}
 use Rattle.records.specs.Seen.{Lent, seen, formedReceiver}
 use Rattle.rules.specs.Ok.{okStream, okReceiver, okSender, everyFrom, heldOk, clocksOk}
 use Rattle.receiving.specs.declared.Read.{Read}

@@ -1,7 +1,7 @@
 -- `taking::left_entry` meets its contract: the entries left to take are the last words of the queue. Assumes nothing.
 use mathlib.Core.Path.{ap, _∙_}
 use borrow.Author.Needs.{needs}
-use Rattle.records.specs.Words.{entryOf}
+use Rattle.words.specs.Words.{entryOf}
 use Rattle.taking.proofs.LeftWords.{left-word}
 use Rattle.taking.proofs.left_entry.Statement.{statement}
 use Rattle.taking.proofs.left_entry.Tie as tie

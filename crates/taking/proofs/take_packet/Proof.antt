@@ -5,7 +5,7 @@ use native.Mathlib.Omega.{arith}
 use mathlib.Core.Path.{refl, ap, _∙_}
 use lib.ListN.{drop}
 use borrow.Author.Needs.{needs}
-use Rattle.records.specs.declared.words.Sent.{Sent}
+use Rattle.words.specs.declared.Sent.{Sent}
 use Rattle.records.specs.Put.{put}
 use Rattle.records.specs.Seen.{withSent}
 use Rattle.taking.proofs.TakeOne.{part-short}
