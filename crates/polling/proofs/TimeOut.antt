@@ -24,7 +24,7 @@ use Rattle.closing.proofs.StatePacket.{terminate-seen}
 use Rattle.acking.specs.Acked.{withWords}
 use Rattle.driving.specs.declared.timeouts.Passed.{Passed}
 use Rattle.driving.specs.Packets.{Stored}
-use Rattle.driving.specs.Timer.{timingSeen, IsDue, Shrinks}
+use Rattle.timer.specs.Timer.{timingSeen, IsDue, Shrinks}
 use Rattle.driving.specs.Timeouts as pass
 use Rattle.polling.specs.declared.Polled.{Polled}
 use Rattle.polling.specs.declared.timeouts.Lost.{Lost}

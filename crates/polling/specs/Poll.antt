@@ -11,7 +11,7 @@ use Rattle.records.specs.declared.Stream.{Stream}
 use Rattle.records.specs.declared.Totals.{Totals}
 use Rattle.records.specs.Seen.{Lent, seen, formedQueue, QueueFormed}
 use Rattle.driving.specs.Packets.{Stored}
-use Rattle.driving.specs.Flushing.{withQueued}
+use Rattle.flushing.specs.Flushing.{withQueued}
 use Rattle.polling.specs.declared.Polled.{Polled}
 use Rattle.polling.specs.Settling.{Acked}
 use Rattle.polling.specs.Timeouts.{withPolled}

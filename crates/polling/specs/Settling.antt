@@ -12,7 +12,7 @@ use Rattle.records.specs.declared.Totals.{Totals}
 use Rattle.records.specs.Seen.{Lent, seen}
 use Rattle.acking.specs.declared.Acks.{Acks}
 use Rattle.acking.specs.Acked.{withAcks, withWords}
-use Rattle.driving.specs.Timer.{timingSeen}
+use Rattle.timer.specs.Timer.{timingSeen}
 use Rattle.driving.specs.Packets.{Stored}
 use Rattle.polling.specs.declared.Polled.{Polled}
 

@@ -48,11 +48,11 @@ fn flush(s: Stream, sent: &mut [u64; 64], queue: &mut [u64; 128]) -> Stream
 {
     let before = s.sender;
     let q = s.queue;
-    let f = driving::flush_waiting_packets(before, q, sent, queue);
+    let f = flushing::flush_waiting_packets(before, q, sent, queue);
     records::word_count(queue);
     let sender = f.sender;
     let queued = f.queue;
-    let left = driving::left_to_take(queued);
+    let left = draining::left_to_take(queued);
     let mut stream = s;
     stream.sender = sender;
     stream.queue = left;

@@ -80,7 +80,7 @@ fn restart(s: Stream, clock: Nanos, a: Acks) -> Polled
     let deadline = timing.deadline;
     let rtt = a.rtt;
     let measured = Timing { rtt, deadline };
-    let later = driving::restarted(measured, clock, moved);
+    let later = timer::restarted(measured, clock, moved);
     let settled = a.sender;
     let sender = no_ack(settled);
     let totals = a.totals;

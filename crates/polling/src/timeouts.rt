@@ -22,8 +22,8 @@ fn consider_lost(s: Stream, clock: Nanos, sent: &mut [u64; 64]) -> Lost
 {
     let timing = s.timing;
     let before = s.sender;
-    let later = driving::backed_off(timing, clock);
-    let smaller = driving::shrunk(before);
+    let later = timer::backed_off(timing, clock);
+    let smaller = timer::shrunk(before);
     let p = driving::time_out_packets(smaller, sent);
     let sender = p.sender;
     let mut stream = s;
@@ -76,7 +76,7 @@ pub fn poll_check_timeouts(
 {
     let timing = s.timing;
     let sender = s.sender;
-    if driving::due(timing, clock, sender) {
+    if timer::due(timing, clock, sender) {
         let lost = consider_lost(s, clock, sent);
         let stream = lost.stream;
         if lost.failed {

@@ -20,7 +20,7 @@ use Rattle.records.specs.declared.Stream.{Stream}
 use Rattle.records.specs.declared.Totals.{Totals}
 use Rattle.records.specs.Seen.{Lent, seen, seenQueue, formedReceiver}
 use Rattle.records.specs.Open.{storesTest}
-use Rattle.driving.specs.Draining.{Drains}
+use Rattle.draining.specs.Draining.{Drains}
 use Rattle.driving.proofs.RulesDrive.{rules-stored}
 use Rattle.polling.specs.declared.Polled.{Polled}
 use Rattle.polling.specs.Timeouts.{withPolled}

@@ -34,7 +34,7 @@ pub fn drive(
             let error = ending.error;
             let q = s.queue;
             let sender = s.sender;
-            if driving::drained(error, q, sender, sent) {
+            if draining::drained(error, q, sender, sent) {
                 return done_step(s, t, clock);
             }
             let p = polling::poll_drive(s, t, clock, sent, queue, headers);

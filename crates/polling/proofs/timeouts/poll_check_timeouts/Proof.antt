@@ -1,7 +1,7 @@
 -- `polling::timeouts::poll_check_timeouts` meets its contract: not due, all packets lost, or one failed. Assumes nothing.
 use mathlib.Core.Path.{subst}
 use borrow.Author.Needs.{needs}
-use Rattle.driving.specs.Timer.{IsDue}
+use Rattle.timer.specs.Timer.{IsDue}
 use Rattle.polling.proofs.TimeOut.{lost-able, checks-nothing, checks-lost, checks-failed}
 use Rattle.polling.proofs.timeouts.poll_check_timeouts.Statement.{statement}
 use Rattle.polling.proofs.timeouts.poll_check_timeouts.Tie as tie
