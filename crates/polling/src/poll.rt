@@ -1,13 +1,13 @@
 // A whole drive (poll_drive).
 ghost use mathlib.Core.Path.{_≡_};
 ghost use Rattle.polling.specs.Poll.{drivenAt, Drivable, Begun, Flushable, Flushes, Polls};
-use crate::Polled;
-use crate::settling::handle_incoming_max_remote_ack;
-use crate::timeouts::poll_check_timeouts;
 use records::Clocks;
 use records::Stream;
 use records::Totals;
 use rtt::Nanos;
+use settling::Polled;
+use settling::handle_incoming_max_remote_ack;
+use timeouts::poll_check_timeouts;
 
 // "an accepted drive .. is the last call with a clock and the last drive"
 pub fn clocked(s: Stream, clock: Nanos) -> Stream

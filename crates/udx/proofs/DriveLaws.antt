@@ -22,8 +22,8 @@ use Rattle.records.specs.Seen.{Lent, seen, seenQueue, formedReceiver}
 use Rattle.records.specs.Open.{storesTest}
 use Rattle.draining.specs.Draining.{Drains}
 use Rattle.driving.proofs.RulesDrive.{rules-stored}
-use Rattle.polling.specs.declared.Polled.{Polled}
-use Rattle.polling.specs.Timeouts.{withPolled}
+use Rattle.settling.specs.declared.Polled.{Polled}
+use Rattle.timeouts.specs.Timeouts.{withPolled}
 use Rattle.polling.specs.Poll.{Drivable, Polls}
 use Rattle.answers.specs.Steps.{refusedStep}
 use Rattle.udx.specs.Agree.{onRecords, Agrees, Answers}
