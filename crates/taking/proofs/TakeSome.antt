@@ -27,10 +27,12 @@ use Rattle.records.proofs.Cut.{cut-length}
 use Rattle.records.proofs.Put.{put-put}
 use Rattle.records.proofs.SeenOutgoing.{outgoing-length}
 use Rattle.records.proofs.SeenQueue.{left-length}
-use Rattle.taking.specs.declared.Progress.{Progress}
-use Rattle.taking.specs.Take.{Stored, Sends, sendEntry, sendLoop, entrySeen, storeSeen, isThere, Written, EntryKept, TakesEntry, Takeable}
-use Rattle.taking.proofs.LeftWords.{entry-at, states-next, states-less}
-use Rattle.taking.proofs.TakeOne.{slotSeen, get-there, there-low, there-high, there-stored, written-none}
+use Rattle.transmitting.specs.declared.Progress.{Progress}
+use Rattle.batching.specs.Batch.{entrySeen}
+use Rattle.transmitting.specs.Transmit.{Sends, sendEntry, storeSeen, isThere, Written, EntryKept, TakesEntry}
+use Rattle.taking.specs.Take.{Stored, sendLoop, Takeable}
+use Rattle.batching.proofs.LeftWords.{entry-at, states-next, states-less}
+use Rattle.transmitting.proofs.TakeOne.{slotSeen, get-there, there-low, there-high, there-stored, written-none}
 
 -- one entry more
 

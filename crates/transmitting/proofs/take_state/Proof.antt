@@ -1,13 +1,13 @@
--- `taking::take_state` meets its contract: the part of the header store has at most 20 bytes, for which there is room. Assumes nothing.
+-- `transmitting::take_state` meets its contract: the part of the header store has at most 20 bytes, for which there is room. Assumes nothing.
 use native.Mathlib.Omega.{arith}
 use Prim.Native.Nat.{_*_}
 use mathlib.Core.Path.{refl, ap, _∙_}
 use lib.ListN.{drop}
 use borrow.Author.Needs.{needs}
 use Rattle.records.specs.Put.{put}
-use Rattle.taking.proofs.TakeOne.{part-short}
-use Rattle.taking.proofs.take_state.Statement.{statement}
-use Rattle.taking.proofs.take_state.Tie as tie
+use Rattle.transmitting.proofs.TakeOne.{part-short}
+use Rattle.transmitting.proofs.take_state.Statement.{statement}
+use Rattle.transmitting.proofs.take_state.Tie as tie
 
 put-at-requires : tie.Need-put-at-requires
 put-at-requires c κs =

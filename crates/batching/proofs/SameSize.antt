@@ -20,7 +20,7 @@ use Rattle.records.specs.Cut.{headerSlot}
 use Rattle.records.specs.Seen.{seenEntries, seenQueue, entryWords, Lent, seen}
 use Rattle.records.proofs.Cut.{cut-length}
 use Rattle.records.proofs.SeenQueue.{left-length}
-use Rattle.taking.specs.Take.{entrySize, Batched, Heads}
+use Rattle.batching.specs.Batch.{entrySize, Batched, Heads}
 
 -- the size that the word at a place says
 abbrev sizeAt : List ℕ → ℕ → ℕ

@@ -13,7 +13,7 @@ use Rattle.records.specs.declared.Queue.{Queue}
 use Rattle.words.specs.Words.{entryOf}
 use Rattle.records.specs.Seen.{seenEntries, entryWords, stateWords}
 use Rattle.records.proofs.SeenQueue.{words-append, entries-drop, words-left}
-use Rattle.taking.specs.Take.{entrySeen}
+use Rattle.batching.specs.Batch.{entrySeen}
 
 pub left-word : (q : Queue) (queue : List ℕ) (i : ℕ) → i < q .left → q .left ≤ q .count → getD queue (q .count - q .left + i) 0 ≡ getD (entryWords q queue) i 0
 left-word q queue i h l =

@@ -1,11 +1,11 @@
--- `taking::head_length` meets its contract: the size of the first entry left to take. Assumes nothing.
+-- `batching::head_length` meets its contract: the size of the first entry left to take. Assumes nothing.
 use native.Mathlib.Omega.{arith}
 use mathlib.Core.Path.{ap, _∙_}
 use borrow.Author.Needs.{needs}
-use Rattle.taking.specs.Take.{entrySize}
-use Rattle.taking.proofs.SameSize.{heads}
-use Rattle.taking.proofs.head_length.Statement.{statement}
-use Rattle.taking.proofs.head_length.Tie as tie
+use Rattle.batching.specs.Batch.{entrySize}
+use Rattle.batching.proofs.SameSize.{heads}
+use Rattle.batching.proofs.head_length.Statement.{statement}
+use Rattle.batching.proofs.head_length.Tie as tie
 
 returns : tie.Need-returns
 returns c =

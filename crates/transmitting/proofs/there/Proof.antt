@@ -1,8 +1,8 @@
--- `taking::there` meets its contract: each way out is one of the three tests. Assumes nothing.
+-- `transmitting::there` meets its contract: each way out is one of the three tests. Assumes nothing.
 use borrow.Author.Needs.{needs}
 use borrow.Author.Tests.{le-leb, lt-leb, lt-ltb, le-ltb}
-use Rattle.taking.proofs.there.Statement.{statement}
-use Rattle.taking.proofs.there.Tie as tie
+use Rattle.transmitting.proofs.there.Statement.{statement}
+use Rattle.transmitting.proofs.there.Tie as tie
 
 returns : tie.Need-returns
 returns c = rw (le-leb _ _ (c .before .before .before .if1 .taken), lt-ltb _ _ (c .before .if2 .taken)) (c .is-stored .ensures)

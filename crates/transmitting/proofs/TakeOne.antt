@@ -25,8 +25,8 @@ use Rattle.records.specs.Seen.{packetOf, withSent}
 use Rattle.words.proofs.WordLaws.{sent-back, stored-number, stored-full}
 use Rattle.records.proofs.Cut.{out-is, head-is, cut-length, cut-whole}
 use Rattle.records.proofs.SeenOutgoing.{get-outgoing, get-settled, get-unsent, remark-outgoing}
-use Rattle.taking.specs.declared.Progress.{Progress}
-use Rattle.taking.specs.Take.{Within, takenPacket, sendEntry, storeSeen, isThere, Written, EntryKept, TakesState, TakesPacket, TakesEntry}
+use Rattle.transmitting.specs.declared.Progress.{Progress}
+use Rattle.transmitting.specs.Transmit.{Within, takenPacket, sendEntry, storeSeen, isThere, Written, EntryKept, TakesState, TakesPacket, TakesEntry}
 
 -- a part of a store is at most as long as was asked for
 pub part-short : (k : ℕ) (part store : List ℕ) → part ≡ take k store → length part ≤ k

@@ -1,4 +1,4 @@
--- `taking::take_packet` meets its contract: the part of the outgoing store has at most 1,400 bytes, for which there is room.
+-- `transmitting::take_packet` meets its contract: the part of the outgoing store has at most 1,400 bytes, for which there is room.
 -- Assumes nothing.
 use Prim.Native.Nat.{_*_, _%_}
 use native.Mathlib.Omega.{arith}
@@ -8,9 +8,9 @@ use borrow.Author.Needs.{needs}
 use Rattle.words.specs.declared.Sent.{Sent}
 use Rattle.records.specs.Put.{put}
 use Rattle.records.specs.Seen.{withSent}
-use Rattle.taking.proofs.TakeOne.{part-short}
-use Rattle.taking.proofs.take_packet.Statement.{statement}
-use Rattle.taking.proofs.take_packet.Tie as tie
+use Rattle.transmitting.proofs.TakeOne.{part-short}
+use Rattle.transmitting.proofs.take_packet.Statement.{statement}
+use Rattle.transmitting.proofs.take_packet.Tie as tie
 
 put-at-requires : tie.Need-put-at-requires
 put-at-requires c κs =

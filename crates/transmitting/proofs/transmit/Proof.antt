@@ -1,12 +1,12 @@
--- `taking::transmit` meets its contract: one law of TakeOne for each way out. Assumes nothing.
+-- `transmitting::transmit` meets its contract: one law of TakeOne for each way out. Assumes nothing.
 use native.Mathlib.Omega.{arith}
 use mathlib.Core.Path.{_≡_, _∙_}
 use mathlib.Core.List.{[]}
 use borrow.Author.Needs.{needs}
-use Rattle.taking.specs.Take.{isThere}
-use Rattle.taking.proofs.TakeOne.{test-there, takes-state, takes-packet, takes-none}
-use Rattle.taking.proofs.transmit.Statement.{statement}
-use Rattle.taking.proofs.transmit.Tie as tie
+use Rattle.transmitting.specs.Transmit.{isThere}
+use Rattle.transmitting.proofs.TakeOne.{test-there, takes-state, takes-packet, takes-none}
+use Rattle.transmitting.proofs.transmit.Statement.{statement}
+use Rattle.transmitting.proofs.transmit.Tie as tie
 
 -- the test is the one that the store is seen by
 found : (c : tie.After-there) → let a = c .before .before .before .before .before .before .before .args in isThere (a .s) (a .sent .now) (a .x .number) ≡ c .there .result

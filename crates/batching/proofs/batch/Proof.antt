@@ -1,4 +1,4 @@
--- `taking::batch` meets its contract. The loop's invariant: of the entries of one size in a row, k are counted, and the count of all is
+-- `batching::batch` meets its contract. The loop's invariant: of the entries of one size in a row, k are counted, and the count of all is
 -- k and what is still to count. Assumes nothing.
 use Prim.Native.Nat.{ℕ, _+_, _-_, _≤_}
 use native.Mathlib.Omega.{arith}
@@ -6,10 +6,10 @@ use mathlib.Core.Path.{_≡_, ap, sym, _∙_}
 use lib.ListN.{length}
 use borrow.Author.Needs.{needs}
 use Rattle.records.specs.Seen.{entryWords}
-use Rattle.taking.specs.Take.{entrySize, Batched}
-use Rattle.taking.proofs.SameSize.{sameFrom, same-start, same-again, same-over, same-ends, batched}
-use Rattle.taking.proofs.batch.Statement.{statement}
-use Rattle.taking.proofs.batch.Tie as tie
+use Rattle.batching.specs.Batch.{entrySize, Batched}
+use Rattle.batching.proofs.SameSize.{sameFrom, same-start, same-again, same-over, same-ends, batched}
+use Rattle.batching.proofs.batch.Statement.{statement}
+use Rattle.batching.proofs.batch.Tie as tie
 
 abbrev Inv-loop : tie.InvT-loop
 Inv-loop q segments queue most size k₀ k =
