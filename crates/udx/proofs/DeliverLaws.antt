@@ -33,7 +33,7 @@ use Rattle.records.specs.Seen.{Lent, seen, seenQueue}
 use Rattle.records.specs.Open.{storesTest}
 use Rattle.receiving.specs.Absorbing.{Accepted}
 use Rattle.receiving.proofs.LaidLaws.{laid-said, laid-says}
-use Rattle.delivering.specs.declared.Delivered.{Delivered}
+use Rattle.handling.specs.declared.Delivered.{Delivered}
 use Rattle.delivering.specs.Handle.{Deliverable, Handled, withDelivered}
 use Rattle.answers.specs.Steps.{refusedStep}
 use Rattle.udx.specs.Agree.{laidOut, onRecords, Agrees, Answers}

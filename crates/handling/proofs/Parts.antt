@@ -28,8 +28,9 @@ use Rattle.acking.specs.declared.Acks.{Acks}
 use Rattle.acking.specs.Sacks.{AcksBlocks}
 use Rattle.receiving.specs.Layout.{Laid}
 use Rattle.receiving.specs.Absorbing.{Absorbed}
-use Rattle.delivering.specs.declared.Delivered.{Delivered}
-use Rattle.delivering.specs.Steps.{countedData, withSender, withReceiver, Sacked, Pushed, Ended, withData, Took}
+use Rattle.handling.specs.declared.Delivered.{Delivered}
+use Rattle.noting.specs.Numbers.{countedData}
+use Rattle.handling.specs.Steps.{withSender, withReceiver, Sacked, Pushed, Ended, withData, Took}
 
 -- SACK blocks
 

@@ -1,15 +1,13 @@
 -- The parts of a delivery on the records: each is the model's part on what is seen, over any words and stores that it is not lent.
 -- Assumes nothing.
-use Prim.Native.Nat.{ℕ, _+_, _%_, _^_, _≤_, _<_, max}
+use Prim.Native.Nat.{ℕ, _+_, _^_, _≤_, _<_}
 use mathlib.Core.Path.{_≡_}
 use mathlib.Core.List.{List}
-use mathlib.Core.Bool.{true, cond}
-use lib.Dec.{ltb}
+use mathlib.Core.Bool.{true}
 use lib.ListN.{length}
 use Rattle.packet.specs.declared.header.Header.{Header}
 use Rattle.packet.specs.Header.{hasType}
-use Rattle.rtt.specs.Estimate.{InRange, nanos}
-use Rattle.rtt.specs.Window.{grown}
+use Rattle.rtt.specs.Estimate.{InRange}
 use Rattle.model.specs.Lists.{Bytes}
 use Rattle.model.specs.Receiving.{onSack, onEnd, onData}
 use Rattle.records.specs.declared.Sender.{Sender}
@@ -23,43 +21,7 @@ use Rattle.closing.specs.State.{withState, withQueue, withEnding}
 use Rattle.acking.specs.Acked.{withWords, SameNumbers}
 use Rattle.receiving.specs.Layout.{Laid}
 use Rattle.receiving.specs.Absorbing.{Accepted}
-use Rattle.delivering.specs.declared.Delivered.{Delivered}
-
--- "received counts every delivery and every DATA payload, repeats too"; "The four running totals wrap at 2^64"
-abbrev pub countedReceived : Totals → Totals
-countedReceived t =
-    record {
-      «tx_packets» = t .«tx_packets»;
-      «tx_bytes» = t .«tx_bytes»;
-      «rx_packets» = (t .«rx_packets» + 1) % 2 ^ 64;
-      «rx_bytes» = t .«rx_bytes»;
-      «inflight_packets» = t .«inflight_packets»;
-      «inflight_bytes» = t .«inflight_bytes»;
-    }
-
-abbrev pub countedData : Totals → ℕ → Totals
-countedData t payload =
-    record {
-      «tx_packets» = t .«tx_packets»;
-      «tx_bytes» = t .«tx_bytes»;
-      «rx_packets» = t .«rx_packets»;
-      «rx_bytes» = (t .«rx_bytes» + payload) % 2 ^ 64;
-      «inflight_packets» = t .«inflight_packets»;
-      «inflight_bytes» = t .«inflight_bytes»;
-    }
-
--- an accepted call's clock
-abbrev pub clockedStream : Stream → ℕ → Stream
-clockedStream s clock =
-    record {
-      ids = s .ids;
-      sender = s .sender;
-      receiver = s .receiver;
-      queue = s .queue;
-      timing = s .timing;
-      ending = s .ending;
-      clocks = record { last = nanos clock; drive = s .clocks .drive };
-    }
+use Rattle.handling.specs.declared.Delivered.{Delivered}
 
 -- a stream with another sender and estimate
 abbrev pub withSender : Sender → Timing → Stream → Stream
@@ -133,16 +95,3 @@ pub record Took (s : Stream) (t : Totals) (h : Header) (payload : Bytes) (held q
   pub others : r .stream ≡ withQueue (r .stream .queue) (withReceiver (r .stream .receiver) s)
   pub pushed : Pushed (s .queue) queue (r .stream .queue) queue′ headers′
   pub laid : Laid (s .receiver) → Laid (r .stream .receiver)
-
--- the window
-
--- "the largest ack since the last drive", and 01, call 3: "If the header's ack exceeds remote acked, the window grows"
-abbrev pub ackedSender : Sender → ℕ → Sender
-ackedSender s ack =
-    record {
-      seq = s .seq;
-      «remote_acked» = s .«remote_acked»;
-      «largest_ack» = max (s .«largest_ack») ack;
-      inflight = s .inflight;
-      cwnd = cond (ltb (s .«remote_acked») ack) (grown (s .cwnd)) (s .cwnd);
-    }

@@ -1,9 +1,9 @@
--- `delivering::on_sack` meets its contract: every block of a SACK, and without one nothing changes. Assumes nothing.
-use Rattle.delivering.proofs.Parts.{sacked, unsacked}
+-- `handling::on_sack` meets its contract: every block of a SACK, and without one nothing changes. Assumes nothing.
+use Rattle.handling.proofs.Parts.{sacked, unsacked}
 use mathlib.Core.Path.{sym, _∙_}
 use borrow.Author.Needs.{needs}
-use Rattle.delivering.proofs.on_sack.Statement.{statement}
-use Rattle.delivering.proofs.on_sack.Tie as tie
+use Rattle.handling.proofs.on_sack.Statement.{statement}
+use Rattle.handling.proofs.on_sack.Tie as tie
 
 is-sack-requires : tie.Need-is-sack-requires
 is-sack-requires c κs = search needs

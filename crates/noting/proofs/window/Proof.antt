@@ -1,8 +1,8 @@
--- `delivering::window` meets its contract. Assumes nothing.
+-- `noting::window` meets its contract. Assumes nothing.
 use borrow.Author.Needs.{needs}
 use borrow.Author.Tests.{lt-ltb, le-ltb}
-use Rattle.delivering.proofs.window.Statement.{statement}
-use Rattle.delivering.proofs.window.Tie as tie
+use Rattle.noting.proofs.window.Statement.{statement}
+use Rattle.noting.proofs.window.Tie as tie
 
 returns : tie.Need-returns
 returns c = rw (c .grow .ensures, lt-ltb _ _ (c .before .if1 .taken))

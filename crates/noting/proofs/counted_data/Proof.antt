@@ -1,7 +1,7 @@
--- `delivering::counted_data` meets its contract. Assumes nothing.
+-- `noting::counted_data` meets its contract. Assumes nothing.
 use borrow.Author.Needs.{needs}
-use Rattle.delivering.proofs.counted_data.Statement.{statement}
-use Rattle.delivering.proofs.counted_data.Tie as tie
+use Rattle.noting.proofs.counted_data.Statement.{statement}
+use Rattle.noting.proofs.counted_data.Tie as tie
 
 returns : tie.Need-returns
 returns c = cc

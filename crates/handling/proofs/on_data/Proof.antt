@@ -1,9 +1,9 @@
--- `delivering::on_data` meets its contract: DATA is held and a state packet queued, and without DATA nothing changes. Assumes nothing.
-use Rattle.delivering.proofs.Parts.{took, not-taken}
+-- `handling::on_data` meets its contract: DATA is held and a state packet queued, and without DATA nothing changes. Assumes nothing.
+use Rattle.handling.proofs.Parts.{took, not-taken}
 use mathlib.Core.Path.{sym, _∙_}
 use borrow.Author.Needs.{needs}
-use Rattle.delivering.proofs.on_data.Statement.{statement}
-use Rattle.delivering.proofs.on_data.Tie as tie
+use Rattle.handling.proofs.on_data.Statement.{statement}
+use Rattle.handling.proofs.on_data.Tie as tie
 
 is-data-requires : tie.Need-is-data-requires
 is-data-requires c κs = search needs

@@ -1,9 +1,9 @@
--- `delivering::on_end` meets its contract: END terminates, and without it nothing changes. Assumes nothing.
-use Rattle.delivering.proofs.Parts.{ended, not-ended}
+-- `handling::on_end` meets its contract: END terminates, and without it nothing changes. Assumes nothing.
+use Rattle.handling.proofs.Parts.{ended, not-ended}
 use mathlib.Core.Path.{sym, _∙_}
 use borrow.Author.Needs.{needs}
-use Rattle.delivering.proofs.on_end.Statement.{statement}
-use Rattle.delivering.proofs.on_end.Tie as tie
+use Rattle.handling.proofs.on_end.Statement.{statement}
+use Rattle.handling.proofs.on_end.Tie as tie
 
 is-end-requires : tie.Need-is-end-requires
 is-end-requires c κs = search needs

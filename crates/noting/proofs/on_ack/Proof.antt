@@ -1,7 +1,7 @@
--- `delivering::on_ack` meets its contract: both numbers are the callees'. Assumes nothing.
+-- `noting::on_ack` meets its contract: both numbers are the callees'. Assumes nothing.
 use borrow.Author.Needs.{needs}
-use Rattle.delivering.proofs.on_ack.Statement.{statement}
-use Rattle.delivering.proofs.on_ack.Tie as tie
+use Rattle.noting.proofs.on_ack.Statement.{statement}
+use Rattle.noting.proofs.on_ack.Tie as tie
 
 returns : tie.Need-returns
 returns c = rw (c .window .ensures, c .before .larger .ensures)
