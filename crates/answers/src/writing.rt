@@ -1,6 +1,6 @@
 // The step of a write: the bytes accepted.
 ghost use mathlib.Core.Path.{_≡_};
-ghost use Rattle.sending.specs.Write.{withOutbox};
+ghost use Rattle.pieces.specs.Piece.{withOutbox};
 ghost use Rattle.answers.specs.Write.{outboxOf, outcomeOf, writtenStep};
 use crate::step::Step;
 use error::Outcome;

@@ -17,7 +17,7 @@ use Rattle.records.specs.declared.Queue.{Queue}
 use Rattle.records.specs.declared.Stream.{Stream}
 use Rattle.records.specs.declared.Totals.{Totals}
 use Rattle.records.specs.Seen.{Lent, seenState, seenTotals, seenQueue, formedQueue}
-use Rattle.sending.specs.Piece.{headerOf}
+use Rattle.pieces.specs.Piece.{headerOf}
 use Rattle.closing.specs.declared.Queued.{Queued}
 
 -- the ending as `seen` has it

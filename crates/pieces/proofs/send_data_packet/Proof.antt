@@ -1,8 +1,8 @@
--- `sending::send_data_packet` meets its contract: each part is what one callee says of it, with the header that was made put in.
+-- `pieces::send_data_packet` meets its contract: each part is what one callee says of it, with the header that was made put in.
 -- Assumes nothing.
 use borrow.Author.Needs.{needs}
-use Rattle.sending.proofs.send_data_packet.Statement.{statement}
-use Rattle.sending.proofs.send_data_packet.Tie as tie
+use Rattle.pieces.proofs.send_data_packet.Statement.{statement}
+use Rattle.pieces.proofs.send_data_packet.Tie as tie
 
 counted-totals-requires : tie.Need-counted-totals-requires
 counted-totals-requires c κs =

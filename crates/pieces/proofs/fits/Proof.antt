@@ -1,4 +1,4 @@
--- `sending::fits` meets its contract: where inflight is within the window, the payload fits what is left of it just where the sum is at
+-- `pieces::fits` meets its contract: where inflight is within the window, the payload fits what is left of it just where the sum is at
 -- most the window. Assumes nothing.
 use Prim.Native.Nat.{ℕ, _+_, _-_, _<_, _≤_}
 use native.Mathlib.Omega.{arith}
@@ -7,8 +7,8 @@ use mathlib.Core.Bool.{Bool, true, false}
 use lib.Dec.{leb}
 use borrow.Author.Needs.{needs}
 use borrow.Author.Tests.{leb-true, leb-false, le-leb, lt-leb}
-use Rattle.sending.proofs.fits.Statement.{statement}
-use Rattle.sending.proofs.fits.Tie as tie
+use Rattle.pieces.proofs.fits.Statement.{statement}
+use Rattle.pieces.proofs.fits.Tie as tie
 
 by-difference : (inflight payload cwnd : ℕ) → inflight ≤ cwnd → leb payload (cwnd - inflight) ≡ leb (inflight + payload) cwnd
 by-difference inflight payload cwnd h = go (leb (inflight + payload) cwnd) refl

@@ -1,4 +1,5 @@
--- One piece on the records: its header, its packet, its queue entry, and the numbers after it. Assumes nothing.
+-- One piece on the records: its header, its packet, its queue entry, and the numbers after it; and a stream and lent words and bytes with
+-- what it changes. Assumes nothing.
 use Prim.Native.Nat.{ℕ, _+_, _-_, _*_, _%_, _^_, _<_, _≤_}
 use mathlib.Core.Path.{_≡_}
 use mathlib.Core.List.{List, _++_}
@@ -12,10 +13,12 @@ use Rattle.words.specs.declared.Sent.{Sent}
 use Rattle.words.specs.declared.Entry.{Entry}
 use Rattle.records.specs.declared.Sender.{Sender}
 use Rattle.records.specs.declared.Queue.{Queue}
+use Rattle.records.specs.declared.Stream.{Stream}
 use Rattle.records.specs.declared.Totals.{Totals}
 use Rattle.words.specs.Words.{sentWord, sentTime, entryWord}
 use Rattle.records.specs.Put.{put}
-use Rattle.sending.specs.declared.Outbox.{Outbox}
+use Rattle.records.specs.Seen.{Lent}
+use Rattle.pieces.specs.declared.Outbox.{Outbox}
 
 -- create_header; 01: "the remote id, offset 0, window 4,294,967,295, and seq and ack as they are when it is made"
 abbrev pub headerOf : (typ remote seq ack : ℕ) → Header
@@ -80,3 +83,21 @@ pub record SendsPiece (o : Outbox) (remote ack : ℕ) (piece sent queue outgoing
   pub sent-words : sent′ ≡ sentPut sent (newPacket (o .sender .seq) (length piece))
   pub queue-words : queue′ ≡ set queue (o .queue .count) (entryWord (newEntry (o .sender .seq) (length piece)))
   pub bytes : outgoing′ ≡ put outgoing (o .sender .seq % 32 * 1_400) (headerBytes (headerOf 1 remote (o .sender .seq) ack) ++ piece)
+
+-- a stream with the numbers of an outbox
+abbrev pub withOutbox : Outbox → Stream → Stream
+withOutbox o s =
+    record {
+      ids = s .ids;
+      sender = o .sender;
+      receiver = s .receiver;
+      queue = o .queue;
+      timing = s .timing;
+      ending = s .ending;
+      clocks = s .clocks;
+    }
+
+-- the lent words and bytes that a write changes
+abbrev pub withSent : (sent queue outgoing : List ℕ) → Lent → Lent
+withSent sent queue outgoing l =
+    record { sent = sent; held = l .held; queue = queue; outgoing = outgoing; incoming = l .incoming; headers = l .headers }

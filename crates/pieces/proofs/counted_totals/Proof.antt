@@ -1,7 +1,7 @@
--- `sending::counted_totals` meets its contract: the two sums that wrap are the callee's, the others the code's own. Assumes nothing.
+-- `pieces::counted_totals` meets its contract: the two sums that wrap are the callee's, the others the code's own. Assumes nothing.
 use borrow.Author.Needs.{needs}
-use Rattle.sending.proofs.counted_totals.Statement.{statement}
-use Rattle.sending.proofs.counted_totals.Tie as tie
+use Rattle.pieces.proofs.counted_totals.Statement.{statement}
+use Rattle.pieces.proofs.counted_totals.Tie as tie
 
 returns : tie.Need-returns
 returns c = cc

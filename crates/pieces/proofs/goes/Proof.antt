@@ -1,11 +1,11 @@
--- `sending::goes` meets its contract: each branch has decided the tests before its own. Assumes nothing.
+-- `pieces::goes` meets its contract: each branch has decided the tests before its own. Assumes nothing.
 use native.Mathlib.Omega.{arith}
 use Prim.Native.Nat.{_-_}
 use mathlib.Core.Path.{_∙_, sym}
 use borrow.Author.Needs.{needs}
 use borrow.Author.Tests.{lt-ltb, le-ltb}
-use Rattle.sending.proofs.goes.Statement.{statement}
-use Rattle.sending.proofs.goes.Tie as tie
+use Rattle.pieces.proofs.goes.Statement.{statement}
+use Rattle.pieces.proofs.goes.Tie as tie
 
 returns : tie.Need-returns
 returns c =

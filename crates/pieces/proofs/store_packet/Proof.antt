@@ -1,8 +1,8 @@
--- `sending::store_packet` meets its contract: the bytes and the words are what the two callees say, with the new packet put in.
+-- `pieces::store_packet` meets its contract: the bytes and the words are what the two callees say, with the new packet put in.
 -- Assumes nothing.
 use borrow.Author.Needs.{needs}
-use Rattle.sending.proofs.store_packet.Statement.{statement}
-use Rattle.sending.proofs.store_packet.Tie as tie
+use Rattle.pieces.proofs.store_packet.Statement.{statement}
+use Rattle.pieces.proofs.store_packet.Tie as tie
 
 returns : tie.Need-returns
 returns c = (rw (c .before .new-packet .ensures) at (c .put-sent .ensures), c .before .before .before .before .before .put-packet .ensures)

@@ -26,9 +26,9 @@ use Rattle.records.proofs.Put.{put-length}
 use Rattle.records.proofs.SeenOutgoing.{write-outgoing}
 use Rattle.records.proofs.SeenQueue.{queue-packet}
 use Rattle.records.proofs.FormedQueue.{queue-said, queue-says, formed-packet}
-use Rattle.sending.specs.declared.Outbox.{Outbox}
-use Rattle.sending.specs.Piece.{headerOf, newPacket, newEntry, pushedQueue, Room, SendsPiece}
-use Rattle.sending.specs.Write.{withOutbox, withSent}
+use Rattle.pieces.specs.declared.Outbox.{Outbox}
+use Rattle.pieces.specs.Piece.{headerOf, newPacket, newEntry, pushedQueue, Room, SendsPiece}
+use Rattle.pieces.specs.Piece.{withOutbox, withSent}
 
 -- three groups of an end
 groups : (e : model.End) {a a′ : model.Sender} {b b′ : model.Queue} {c c′ : model.Totals} → a ≡ a′ → b ≡ b′ → c ≡ c′
