@@ -13,13 +13,13 @@ use Rattle.model.specs.Lists.{Bytes, on}
 use Rattle.model.specs.Slots.{Slots, ceiling, get, remove}
 use Rattle.model.specs.Stream as model
 use Rattle.model.specs.Receiving.{left, measured, countAcked, handleRemoteAck, ackNumber}
-use Rattle.records.specs.declared.words.Sent.{Sent}
+use Rattle.words.specs.declared.Sent.{Sent}
 use Rattle.records.specs.declared.Sender.{Sender}
 use Rattle.records.specs.declared.Stream.{Stream}
 use Rattle.records.specs.declared.Totals.{Totals}
-use Rattle.records.specs.Words.{isStored}
+use Rattle.words.specs.Words.{sentIn, isStored}
 use Rattle.records.specs.Cut.{cut, outgoingSlot}
-use Rattle.records.specs.Seen.{Lent, seen, sentIn, packetOf, seenSender, seenTotals, seenOutgoing}
+use Rattle.records.specs.Seen.{Lent, seen, packetOf, seenSender, seenTotals, seenOutgoing}
 use Rattle.records.proofs.Cut.{cut-length}
 use Rattle.records.proofs.SeenOutgoing.{get-outgoing, drop-outgoing}
 use Rattle.acking.specs.declared.Acks.{Acks}

@@ -8,7 +8,7 @@ use lib.ListN.{length}
 use Rattle.rtt.specs.declared.estimate.Rtt.{Rtt}
 use Rattle.rtt.specs.Estimate.{InRange, sampled}
 use Rattle.model.specs.Receiving.{ackNumber}
-use Rattle.records.specs.declared.words.Sent.{Sent}
+use Rattle.words.specs.declared.Sent.{Sent}
 use Rattle.records.specs.declared.Sender.{Sender}
 use Rattle.records.specs.declared.Totals.{Totals}
 use Rattle.records.specs.declared.Stream.{Stream}

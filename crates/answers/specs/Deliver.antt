@@ -1,6 +1,6 @@
 -- A delivery that is not refused, on the records. Assumes nothing.
 use Rattle.error.specs.declared.Outcome.the-variants.{Ready}
-use Rattle.delivering.specs.declared.Delivered.{Delivered}
+use Rattle.handling.specs.declared.Delivered.{Delivered}
 use Rattle.answers.specs.declared.step.Step.{Step}
 
 abbrev pub deliveredStep : Delivered → Step

@@ -5,7 +5,7 @@ use Rattle.error.specs.declared.Outcome.the-variants.{Ready, Done}
 use Rattle.records.specs.declared.Stream.{Stream}
 use Rattle.records.specs.declared.Totals.{Totals}
 use Rattle.closing.specs.State.{withEnding}
-use Rattle.polling.specs.declared.Polled.{Polled}
+use Rattle.settling.specs.declared.Polled.{Polled}
 use Rattle.polling.specs.Poll.{drivenAt}
 use Rattle.answers.specs.declared.step.Step.{Step}
 

@@ -3,6 +3,5 @@ pub mod Close
 pub mod Deliver
 pub mod Drive
 pub mod Read
-pub mod Refusals
 pub mod Take
 pub mod Write

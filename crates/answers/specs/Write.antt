@@ -6,9 +6,9 @@ use Rattle.error.specs.declared.Outcome.{Outcome}
 use Rattle.error.specs.declared.Outcome.the-variants.{Ready, Waiting}
 use Rattle.records.specs.declared.Stream.{Stream}
 use Rattle.records.specs.declared.Totals.{Totals}
-use Rattle.sending.specs.declared.Outbox.{Outbox}
+use Rattle.pieces.specs.declared.Outbox.{Outbox}
 use Rattle.sending.specs.declared.Written.{Written}
-use Rattle.sending.specs.Write.{withOutbox}
+use Rattle.pieces.specs.Piece.{withOutbox}
 use Rattle.answers.specs.declared.step.Step.{Step}
 
 abbrev pub outboxOf : Stream → Totals → Outbox

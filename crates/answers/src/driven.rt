@@ -1,4 +1,4 @@
-// What a drive answers that is not refused: done, or the stream after the poll.
+// The steps of a drive: done, or the stream after the poll.
 ghost use mathlib.Core.Path.{_≡_};
 ghost use Rattle.answers.specs.Drive.{doneStep, polledStep};
 use crate::step::Step;

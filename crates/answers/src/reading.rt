@@ -1,4 +1,4 @@
-// What a read answers: ready, the error or waiting, with the place that it reached.
+// The step of a read: ready, the error or waiting, with the place that it reached.
 ghost use mathlib.Core.Path.{_≡_};
 ghost use Rattle.answers.specs.Read.{outcomeOf, readStep};
 use crate::step::Step;

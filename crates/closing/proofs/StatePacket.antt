@@ -17,10 +17,10 @@ use Rattle.records.specs.declared.Ending.{Ending}
 use Rattle.records.specs.declared.Queue.{Queue}
 use Rattle.records.specs.declared.Stream.{Stream}
 use Rattle.records.specs.declared.Totals.{Totals}
-use Rattle.records.specs.Words.{entryOf, entryWord}
+use Rattle.words.specs.Words.{entryOf, entryWord}
 use Rattle.records.specs.Put.{put}
 use Rattle.records.specs.Seen.{Lent, seen, seenQueue, seenTotals, formedQueue}
-use Rattle.records.proofs.WordLaws.{entry-back}
+use Rattle.words.proofs.WordLaws.{entry-back}
 use Rattle.records.proofs.Put.{put-length}
 use Rattle.records.proofs.SeenQueue.{queue-state}
 use Rattle.records.proofs.FormedQueue.{queue-said, queue-says, formed-state}

@@ -11,13 +11,13 @@ use Rattle.packet.specs.Header.{headerBytes}
 use Rattle.model.specs.Lists.{Bytes}
 use Rattle.model.specs.Stream as model
 use Rattle.model.specs.Sending.{isSet, stateType, pushed, countState}
-use Rattle.records.specs.declared.words.Entry.{Entry}
+use Rattle.words.specs.declared.Entry.{Entry}
 use Rattle.records.specs.declared.Ending.{Ending}
 use Rattle.records.specs.declared.Queue.{Queue}
 use Rattle.records.specs.declared.Stream.{Stream}
 use Rattle.records.specs.declared.Totals.{Totals}
 use Rattle.records.specs.Seen.{Lent, seenState, seenTotals, seenQueue, formedQueue}
-use Rattle.sending.specs.Piece.{headerOf}
+use Rattle.pieces.specs.Piece.{headerOf}
 use Rattle.closing.specs.declared.Queued.{Queued}
 
 -- the ending as `seen` has it

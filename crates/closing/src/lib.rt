@@ -17,12 +17,12 @@ ghost use Rattle.closing.specs.State.{
 use constants::UDX_HEADER_END;
 use error::UdxError;
 use packet::Header;
+use pieces::create_header;
 use records::Ending;
 use records::Entry;
 use records::Queue;
 use records::StreamState;
 use records::Totals;
-use sending::create_header;
 
 // What a queued state packet changes besides the words and the bytes.
 pub struct Queued {

@@ -20,8 +20,9 @@ use Rattle.closing.specs.State.{Pushable, withState}
 use Rattle.acking.specs.Acked.{withWords}
 use Rattle.receiving.specs.Layout.{Laid}
 use Rattle.receiving.specs.Absorbing.{Accepted}
-use Rattle.delivering.specs.declared.Delivered.{Delivered}
-use Rattle.delivering.specs.Steps.{countedReceived, clockedStream, withSender, Measured, Sacked, Pushed, Ended, TakesData, withData, Took, ackedSender}
+use Rattle.handling.specs.declared.Delivered.{Delivered}
+use Rattle.noting.specs.Numbers.{countedReceived, clockedStream, ackedSender}
+use Rattle.handling.specs.Steps.{withSender, Measured, Sacked, Pushed, Ended, TakesData, withData, Took}
 use Rattle.delivering.specs.Handle.{withBegun, begun, Began, Deliverable, withDelivered, Handled}
 
 -- a state packet more can follow

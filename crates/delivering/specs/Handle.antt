@@ -12,8 +12,8 @@ use Rattle.records.specs.declared.Stream.{Stream}
 use Rattle.records.specs.declared.Totals.{Totals}
 use Rattle.records.specs.Seen.{Lent, seen, formedQueue}
 use Rattle.receiving.specs.Layout.{Laid}
-use Rattle.delivering.specs.declared.Delivered.{Delivered}
-use Rattle.delivering.specs.Steps.{Measured, Pushed, TakesData}
+use Rattle.handling.specs.declared.Delivered.{Delivered}
+use Rattle.handling.specs.Steps.{Measured, Pushed, TakesData}
 
 -- what comes before DATA
 

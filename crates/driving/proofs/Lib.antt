@@ -1,6 +1,3 @@
-pub mod TimerLaws
 pub mod Remark
 pub mod TimeOut
-pub mod Flush
-pub mod Drain
 pub mod RulesDrive

@@ -14,11 +14,11 @@ use Rattle.model.specs.Lists.{Bytes}
 use Rattle.model.specs.Slots.{ceiling, insert}
 use Rattle.model.specs.Stream as model
 use Rattle.model.specs.Driving.{marked}
-use Rattle.records.specs.declared.words.Sent.{Sent}
+use Rattle.words.specs.declared.Sent.{Sent}
 use Rattle.records.specs.declared.Sender.{Sender}
-use Rattle.records.specs.Words.{sentOf, sentWord, sentTime, isStored}
-use Rattle.records.specs.Seen.{marksOf, packetOf, sentIn, seenOutgoing, withSent}
-use Rattle.records.proofs.WordLaws.{sent-back, stored-number, stored-full}
+use Rattle.words.specs.Words.{sentOf, sentIn, sentWord, sentTime, isStored}
+use Rattle.records.specs.Seen.{marksOf, packetOf, seenOutgoing, withSent}
+use Rattle.words.proofs.WordLaws.{sent-back, stored-number, stored-full}
 use Rattle.records.proofs.SeenOutgoing.{remark-outgoing}
 use Rattle.driving.specs.Packets.{Within, Stored}
 

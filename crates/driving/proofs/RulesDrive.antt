@@ -8,10 +8,11 @@ use Rattle.model.specs.Slots.{ceiling, get}
 use Rattle.model.specs.Rules.{rules}
 use Rattle.model.proofs.SlotSums.{get-slot}
 use Rattle.model.proofs.RulesKept.{rules-say}
-use Rattle.records.specs.declared.words.Sent.{Sent}
+use Rattle.words.specs.declared.Sent.{Sent}
 use Rattle.records.specs.declared.Stream.{Stream}
 use Rattle.records.specs.declared.Totals.{Totals}
-use Rattle.records.specs.Seen.{marksOf, packetOf, sentIn, Lent, seen}
+use Rattle.words.specs.Words.{sentIn}
+use Rattle.records.specs.Seen.{marksOf, packetOf, Lent, seen}
 use Rattle.records.proofs.Cut.{cut-length}
 use Rattle.records.proofs.SeenOutgoing.{get-outgoing}
 use Rattle.driving.specs.Packets.{Stored}

@@ -17,12 +17,12 @@ use Rattle.model.specs.Stream as model
 use Rattle.model.specs.Driving as drive
 use Rattle.model.specs.Driving.{lostMarks, lost, timeOutPacket, timeOutNumber, timeOutLoop}
 use Rattle.model.proofs.Gate.{and-left, and-right}
-use Rattle.records.specs.declared.words.Sent.{Sent}
+use Rattle.words.specs.declared.Sent.{Sent}
 use Rattle.records.specs.declared.Sender.{Sender}
-use Rattle.records.specs.Words.{isStored}
+use Rattle.words.specs.Words.{sentIn, isStored}
 use Rattle.records.specs.Cut.{outgoingSlot}
-use Rattle.records.specs.Seen.{marksOf, packetOf, sentIn, seen, seenSender, withSent}
-use Rattle.records.proofs.WordLaws.{stored-number}
+use Rattle.records.specs.Seen.{marksOf, packetOf, seen, seenSender, withSent}
+use Rattle.words.proofs.WordLaws.{stored-number}
 use Rattle.records.proofs.Cut.{cut-length}
 use Rattle.records.proofs.SeenOutgoing.{get-outgoing}
 use Rattle.driving.specs.Packets.{Stored, withInflight}

@@ -1,5 +1,2 @@
-pub mod Timer
 pub mod Packets
 pub mod Timeouts
-pub mod Flushing
-pub mod Draining

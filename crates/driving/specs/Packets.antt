@@ -5,11 +5,11 @@ use mathlib.Core.Path.{_≡_}
 use mathlib.Core.List.{List}
 use mathlib.Core.Bool.{true}
 use Rattle.model.specs.Slots.{ceiling}
-use Rattle.records.specs.declared.words.Sent.{Sent}
+use Rattle.words.specs.declared.Sent.{Sent}
 use Rattle.records.specs.declared.Sender.{Sender}
 use Rattle.records.specs.declared.Stream.{Stream}
-use Rattle.records.specs.Words.{isStored}
-use Rattle.records.specs.Seen.{sentIn, Lent}
+use Rattle.words.specs.Words.{sentIn, isStored}
+use Rattle.records.specs.Seen.{Lent}
 
 -- 01, 'Rules of the records': "lengths are 21 to 1,400 stored"; "neither a time sent nor the last drive's clock is past the last clock,
 -- which is below 2^60"

@@ -2,7 +2,7 @@
 ghost use mathlib.Core.Path.{_≡_};
 ghost use mathlib.Core.Bool.{_&&_, not};
 ghost use Prim.Native.Nat.{_≤_};
-ghost use Rattle.records.specs.Words.{isStored};
+ghost use Rattle.words.specs.Words.{isStored};
 ghost use Rattle.driving.specs.Packets.{Stored};
 ghost use Rattle.driving.specs.Timeouts.{lostPacket, TimesOut};
 use crate::inflight::less;

@@ -9,9 +9,9 @@ use mathlib.Core.Bool.{Bool, true, false, cond, _&&_, not, and-true, and-false}
 use lib.Dec.{leb, ltb, eqb}
 use lib.ListN.{getD}
 use borrow.Author.Tests.{le-leb, lt-leb, lt-ltb, eq-eqb, eqb-false, not-true, ltb-true, ltb-false}
-use Rattle.records.specs.declared.words.Held.{Held}
+use Rattle.words.specs.declared.Held.{Held}
 use Rattle.records.specs.declared.Receiver.{Receiver}
-use Rattle.records.specs.Words.{heldOf, isHeld, isShort}
+use Rattle.words.specs.Words.{heldOf, isHeld, isShort}
 use Rattle.packet_rules.specs.Packets.{everyFrom, heldOk, okReceiver}
 use Rattle.packet_rules.specs.Passes.{payloadOk, heldKept}
 use Rattle.packet_rules.proofs.Bools.{and-left, and-right}

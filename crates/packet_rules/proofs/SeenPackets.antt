@@ -14,8 +14,8 @@ use Rattle.model.specs.Rules.{sum, everySlot, inflightOf, oneOf, payloadOf, sto
 use Rattle.records.specs.declared.Sender.{Sender}
 use Rattle.records.specs.declared.Receiver.{Receiver}
 use Rattle.records.specs.declared.Totals.{Totals}
-use Rattle.records.specs.Words.{isStored, heldOf, isHeld}
-use Rattle.records.specs.Seen.{sentIn, packetOf, heldPayload, seenOutgoing, seenIncoming, seenSender, seenReceiver, seenTotals, formedReceiver}
+use Rattle.words.specs.Words.{sentIn, isStored, heldOf, isHeld}
+use Rattle.records.specs.Seen.{packetOf, heldPayload, seenOutgoing, seenIncoming, seenSender, seenReceiver, seenTotals, formedReceiver}
 use Rattle.packet_rules.specs.Packets.{everyFrom, sumFrom, storedOk, inflightAt, packetsAt, payloadAt, okSender, heldOk, okReceiver}
 use Rattle.packet_rules.proofs.Pieces.{cut-length}
 use Rattle.packet_rules.proofs.SeenStore.{View, found, every-seen, sum-seen}

@@ -9,11 +9,10 @@ use mathlib.Core.List.{List}
 use mathlib.Core.Bool.{Bool, true, false, cond, _&&_, not, and-assoc, and-false}
 use lib.Dec.{leb, eqb}
 use borrow.Author.Tests.{le-leb, lt-leb, lt-ltb, eq-eqb, ne-eqb, leb-true}
-use Rattle.records.specs.declared.words.Sent.{Sent}
+use Rattle.words.specs.declared.Sent.{Sent}
 use Rattle.records.specs.declared.Sender.{Sender}
 use Rattle.records.specs.declared.Totals.{Totals}
-use Rattle.records.specs.Words.{isStored, isSized}
-use Rattle.records.specs.Seen.{sentIn}
+use Rattle.words.specs.Words.{sentIn, isStored, isSized}
 use Rattle.packet_rules.specs.Packets.{everyFrom, sumFrom, storedOk, inflightAt, packetsAt, payloadAt, senderNumbersOk, okSender}
 use Rattle.packet_rules.specs.Passes.{inTime, packetOk, keptOk, StoredSums}
 use Rattle.packet_rules.proofs.Bools.{and-left, and-right}

@@ -9,12 +9,12 @@ use lib.Dec.{leb, eqb}
 use lib.ListN.{getD}
 use Rattle.model.specs.Slots.{ceiling}
 use Rattle.model.specs.Rules.{storedRule, heldRule, cwndRange}
-use Rattle.records.specs.declared.words.Sent.{Sent}
+use Rattle.words.specs.declared.Sent.{Sent}
 use Rattle.records.specs.declared.Sender.{Sender}
 use Rattle.records.specs.declared.Receiver.{Receiver}
 use Rattle.records.specs.declared.Totals.{Totals}
-use Rattle.records.specs.Words.{isStored, heldOf, isHeld}
-use Rattle.records.specs.Seen.{sentIn, formedReceiver}
+use Rattle.words.specs.Words.{sentIn, isStored, heldOf, isHeld}
+use Rattle.records.specs.Seen.{formedReceiver}
 
 -- tests and sums over `count` numbers from n on
 

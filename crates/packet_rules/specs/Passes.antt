@@ -6,9 +6,9 @@ use mathlib.Core.List.{List}
 use mathlib.Core.Bool.{Bool, true, _&&_}
 use lib.Dec.{ltb, leb}
 use Rattle.model.specs.Lists.{on}
-use Rattle.records.specs.declared.words.Sent.{Sent}
-use Rattle.records.specs.declared.words.Held.{Held}
-use Rattle.records.specs.Words.{isSized, isShort}
+use Rattle.words.specs.declared.Sent.{Sent}
+use Rattle.words.specs.declared.Held.{Held}
+use Rattle.words.specs.Words.{isSized, isShort}
 use Rattle.packet_rules.specs.Packets.{everyFrom, sumFrom, timeSent, storedOk, inflightAt, packetsAt, payloadAt}
 
 -- a stored packet

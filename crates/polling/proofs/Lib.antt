@@ -1,4 +1,1 @@
-pub mod SettleOne
-pub mod SettleAll
-pub mod TimeOut
 pub mod Whole

@@ -15,12 +15,12 @@ use Rattle.records.specs.declared.Totals.{Totals}
 use Rattle.records.specs.Seen.{Lent, seen, formedQueue}
 use Rattle.records.proofs.FormedQueue.{queue-said, queue-says}
 use Rattle.closing.specs.State.{Pushable}
-use Rattle.driving.specs.declared.flushing.Flushed.{Flushed}
-use Rattle.driving.specs.Flushing as waiting
-use Rattle.driving.specs.Draining.{LeavesToTake}
-use Rattle.polling.specs.declared.Polled.{Polled}
-use Rattle.polling.specs.Settling.{Acked, Settled}
-use Rattle.polling.specs.Timeouts.{Checkable, withPolled, Checked}
+use Rattle.flushing.specs.declared.Flushed.{Flushed}
+use Rattle.flushing.specs.Flushing as waiting
+use Rattle.draining.specs.Draining.{LeavesToTake}
+use Rattle.settling.specs.declared.Polled.{Polled}
+use Rattle.settling.specs.Settling.{Acked, Settled}
+use Rattle.timeouts.specs.Timeouts.{Checkable, withPolled, Checked}
 use Rattle.polling.specs.Poll.{drivenAt, Drivable, Begun, Flushable, Flushes, Polls}
 
 -- settling and timeouts

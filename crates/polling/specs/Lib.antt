@@ -1,3 +1,1 @@
-pub mod Settling
-pub mod Timeouts
 pub mod Poll

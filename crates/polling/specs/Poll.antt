@@ -11,10 +11,10 @@ use Rattle.records.specs.declared.Stream.{Stream}
 use Rattle.records.specs.declared.Totals.{Totals}
 use Rattle.records.specs.Seen.{Lent, seen, formedQueue, QueueFormed}
 use Rattle.driving.specs.Packets.{Stored}
-use Rattle.driving.specs.Flushing.{withQueued}
-use Rattle.polling.specs.declared.Polled.{Polled}
-use Rattle.polling.specs.Settling.{Acked}
-use Rattle.polling.specs.Timeouts.{withPolled}
+use Rattle.flushing.specs.Flushing.{withQueued}
+use Rattle.settling.specs.declared.Polled.{Polled}
+use Rattle.settling.specs.Settling.{Acked}
+use Rattle.timeouts.specs.Timeouts.{withPolled}
 
 -- an accepted drive is the last call with a clock and the last drive
 abbrev pub drivenAt : ℕ → Stream → Stream

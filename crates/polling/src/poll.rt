@@ -1,13 +1,13 @@
 // A whole drive (poll_drive).
 ghost use mathlib.Core.Path.{_≡_};
 ghost use Rattle.polling.specs.Poll.{drivenAt, Drivable, Begun, Flushable, Flushes, Polls};
-use crate::Polled;
-use crate::settling::handle_incoming_max_remote_ack;
-use crate::timeouts::poll_check_timeouts;
 use records::Clocks;
 use records::Stream;
 use records::Totals;
 use rtt::Nanos;
+use settling::Polled;
+use settling::handle_incoming_max_remote_ack;
+use timeouts::poll_check_timeouts;
 
 // "an accepted drive .. is the last call with a clock and the last drive"
 pub fn clocked(s: Stream, clock: Nanos) -> Stream
@@ -48,11 +48,11 @@ fn flush(s: Stream, sent: &mut [u64; 64], queue: &mut [u64; 128]) -> Stream
 {
     let before = s.sender;
     let q = s.queue;
-    let f = driving::flush_waiting_packets(before, q, sent, queue);
+    let f = flushing::flush_waiting_packets(before, q, sent, queue);
     records::word_count(queue);
     let sender = f.sender;
     let queued = f.queue;
-    let left = driving::left_to_take(queued);
+    let left = draining::left_to_take(queued);
     let mut stream = s;
     stream.sender = sender;
     stream.queue = left;

@@ -19,7 +19,8 @@ use Rattle.records.specs.Seen.{Lent, seen}
 use Rattle.records.specs.Open.{freshStream, freshTotals, storesTest, openWhy}
 use Rattle.records.proofs.SeenFresh.{fresh-formed}
 use Rattle.rules.proofs.Seen.{ok-said}
-use Rattle.answers.specs.Refusals.{brokenRecords, takeVerdict}
+use Rattle.broken_records.specs.Broken.{brokenRecords}
+use Rattle.refusals.specs.Verdicts.{takeVerdict}
 use Rattle.answers.specs.Take.{nothingStep}
 use Rattle.udx.proofs.TakeLaws.{take-nothing}
 use Rattle.promise.specs.Runs.{toTake, Event, Run, OpenedBy, handedOut}

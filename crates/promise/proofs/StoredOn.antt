@@ -17,9 +17,9 @@ use Rattle.model.proofs.Gate.{and-left}
 use Rattle.model.proofs.Invariant.{StoredIn}
 use Rattle.model.proofs.Slots.{no-some, some-inj}
 use Rattle.model.proofs.SlotSums.{slots-look}
-use Rattle.records.specs.Words.{isStored}
+use Rattle.words.specs.Words.{sentIn, isStored}
 use Rattle.records.specs.Cut.{cut, outgoingSlot}
-use Rattle.records.specs.Seen.{packetOf, sentIn, seen}
+use Rattle.records.specs.Seen.{packetOf, seen}
 use Rattle.records.specs.Open.{storesTest}
 use Rattle.records.proofs.Cut.{out-is, cut-length, cut-drop}
 use Rattle.records.proofs.SeenOutgoing.{storedAt, get-outgoing}

@@ -23,7 +23,7 @@ use Rattle.records.specs.Seen.{Lent}
 use Rattle.records.specs.Open.{Opens}
 use Rattle.records.proofs.«open» as opening
 use Rattle.answers.specs.declared.step.Step.{Step}
-use Rattle.answers.specs.Steps.{lent}
+use Rattle.broken_records.specs.Broken.{lent}
 use Rattle.udx.specs.Look.{shownOf}
 use Rattle.udx.proofs.write as write
 use Rattle.udx.proofs.deliver as deliver

@@ -12,9 +12,8 @@ use lib.ListN.{length, getD, set, take, drop, replicate, length-set, length-take
 use lib.Seq.{slice-cons}
 use borrow.Author.Tests.{eqb-true, eq-eqb}
 use Rattle.model.specs.Rules.{distinct, every}
-use Rattle.records.specs.declared.words.Entry.{Entry}
-use Rattle.records.specs.Words.{isStored, entryOf, samePacket}
-use Rattle.records.specs.Seen.{sentIn}
+use Rattle.words.specs.declared.Entry.{Entry}
+use Rattle.words.specs.Words.{sentIn, isStored, entryOf, samePacket}
 use Rattle.queue_rules.specs.Entries.{stateCount, packetNumbers}
 use Rattle.queue_rules.specs.Passes.{known, sized, queuedOk, plainOk, entryRule, EntriesPassed}
 use Rattle.packet_rules.proofs.From.{swap}

@@ -13,8 +13,8 @@ use borrow.Author.Tests.{le-leb, lt-leb}
 use Rattle.model.specs.Rules.{distinct, every}
 use Rattle.records.specs.declared.Sender.{Sender}
 use Rattle.records.specs.declared.Queue.{Queue}
-use Rattle.records.specs.Words.{isStored, entryOf}
-use Rattle.records.specs.Seen.{sentIn, firstEntry, entryWords}
+use Rattle.words.specs.Words.{sentIn, isStored, entryOf}
+use Rattle.records.specs.Seen.{firstEntry, entryWords}
 use Rattle.queue_rules.specs.Entries.{sameLength, entryOk, stateCount, packetNumbers, placesOk, okQueue}
 use Rattle.queue_rules.specs.Passes.{known, entryRule, EntriesPassed}
 

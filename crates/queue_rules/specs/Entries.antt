@@ -8,11 +8,11 @@ use lib.Dec.{ltb, leb, eqb}
 use lib.ListN.{length}
 use Rattle.model.specs.Slots.{ceiling}
 use Rattle.model.specs.Rules.{distinct, every}
-use Rattle.records.specs.declared.words.Entry.{Entry}
+use Rattle.words.specs.declared.Entry.{Entry}
 use Rattle.records.specs.declared.Sender.{Sender}
 use Rattle.records.specs.declared.Queue.{Queue}
-use Rattle.records.specs.Words.{isStored, entryOf}
-use Rattle.records.specs.Seen.{sentIn, entryWords}
+use Rattle.words.specs.Words.{sentIn, isStored, entryOf}
+use Rattle.records.specs.Seen.{entryWords}
 
 -- the queue
 

@@ -7,9 +7,8 @@ use lib.Dec.{ltb, leb, eqb}
 use lib.ListN.{length}
 use Rattle.model.specs.Slots.{ceiling}
 use Rattle.model.specs.Rules.{distinct, every}
-use Rattle.records.specs.declared.words.Entry.{Entry}
-use Rattle.records.specs.Words.{isStored, entryOf, samePacket}
-use Rattle.records.specs.Seen.{sentIn}
+use Rattle.words.specs.declared.Entry.{Entry}
+use Rattle.words.specs.Words.{sentIn, isStored, entryOf, samePacket}
 use Rattle.queue_rules.specs.Entries.{stateCount, packetNumbers}
 
 -- a queue entry

@@ -15,12 +15,12 @@ use Rattle.model.specs.Lists.{Bytes}
 use Rattle.model.specs.Slots.{ceiling, get, insert}
 use Rattle.model.specs.Stream as model
 use Rattle.model.specs.Receiving.{acked, advance, absorb}
-use Rattle.records.specs.declared.words.Held.{Held}
+use Rattle.words.specs.declared.Held.{Held}
 use Rattle.records.specs.declared.Receiver.{Receiver}
-use Rattle.records.specs.Words.{heldOf, heldWord, isHeld}
+use Rattle.words.specs.Words.{heldOf, heldWord, isHeld}
 use Rattle.records.specs.Put.{put}
 use Rattle.records.specs.Seen.{heldPayload, seenIncoming, seenReceiver}
-use Rattle.records.proofs.WordLaws.{held-back}
+use Rattle.words.proofs.WordLaws.{held-back}
 use Rattle.records.proofs.SeenIncoming.{heldIn, withHeld, get-incoming, get-past, clear-one, hold-incoming, hold-next}
 use Rattle.receiving.specs.Layout.{Laid}
 use Rattle.receiving.specs.Absorbing.{Accepted, Cleared, Inserted, Advanced, Absorbed}

@@ -15,13 +15,13 @@ use Rattle.model.specs.Lists.{Bytes}
 use Rattle.model.specs.Slots.{Slots, ceiling, get, insert}
 use Rattle.model.specs.Stream as model
 use Rattle.model.specs.Receiving.{Got, rest, readTo, finished, gotNone, gotFront, gotWhole, readLoop, readNext}
-use Rattle.records.specs.declared.words.Held.{Held}
+use Rattle.words.specs.declared.Held.{Held}
 use Rattle.records.specs.declared.Receiver.{Receiver}
-use Rattle.records.specs.Words.{heldOf, heldWord, isHeld}
+use Rattle.words.specs.Words.{heldOf, heldWord, isHeld}
 use Rattle.records.specs.Cut.{cut, incomingSlot}
 use Rattle.records.specs.Put.{put}
 use Rattle.records.specs.Seen.{heldPayload, seenReceiver}
-use Rattle.records.proofs.WordLaws.{held-back, held-number, held-full}
+use Rattle.words.proofs.WordLaws.{held-back, held-number, held-full}
 use Rattle.records.proofs.Cut.{in-is, cut-length, cut-drop}
 use Rattle.records.proofs.Put.{put-length, put-put}
 use Rattle.records.proofs.SeenIncoming.{heldIn, get-incoming, get-past, finish-incoming, offset-incoming}

@@ -7,9 +7,9 @@ use lib.ListN.{length, getD, set, take}
 use Rattle.model.specs.Lists.{Bytes}
 use Rattle.model.specs.Slots.{ceiling}
 use Rattle.model.specs.Receiving.{Got, rest, readNext}
-use Rattle.records.specs.declared.words.Held.{Held}
+use Rattle.words.specs.declared.Held.{Held}
 use Rattle.records.specs.declared.Receiver.{Receiver}
-use Rattle.records.specs.Words.{heldOf, heldWord, isHeld}
+use Rattle.words.specs.Words.{heldOf, heldWord, isHeld}
 use Rattle.records.specs.Put.{put}
 use Rattle.records.specs.Seen.{heldPayload, seenReceiver}
 use Rattle.receiving.specs.declared.Read.{Read}

@@ -1,5 +1,4 @@
 pub mod OpenLaws
-pub mod WordLaws
 pub mod Table
 pub mod Put
 pub mod Cut

@@ -15,11 +15,11 @@ use Rattle.model.specs.Lists.{Bytes}
 use Rattle.model.specs.Slots.{ceiling, noSlots, get, insert, remove}
 use Rattle.model.specs.Stream as model
 use Rattle.model.specs.Driving.{marked}
-use Rattle.records.specs.declared.words.Sent.{Sent}
-use Rattle.records.specs.Words.{sentOf, sentWord, sentTime, isStored}
+use Rattle.words.specs.declared.Sent.{Sent}
+use Rattle.words.specs.Words.{sentOf, sentIn, sentWord, sentTime, isStored}
 use Rattle.records.specs.Cut.{cut, outgoingSlot}
 use Rattle.records.specs.Put.{put}
-use Rattle.records.specs.Seen.{marksOf, packetOf, sentIn, withSent, seenOutgoing}
+use Rattle.records.specs.Seen.{marksOf, packetOf, withSent, seenOutgoing}
 use Rattle.records.proofs.Cut.{out-is, cut-same, cut-other}
 use Rattle.records.proofs.SeenSlots.{Cell, shown, shown-in, shown-below, shown-above, shown-same, shown-high, slots-length, slots-get, slots-none, slots-same, slots-insert, slots-drop, slots-settle, remove-absent}
 

@@ -11,9 +11,9 @@ use Rattle.model.specs.Lists.{Bytes}
 use Rattle.model.specs.Slots.{Slots, Numbered, ceiling}
 use Rattle.model.specs.Stream as model
 use Rattle.model.specs.Rules.{states}
-use Rattle.records.specs.declared.words.Sent.{Sent}
-use Rattle.records.specs.declared.words.Held.{Held}
-use Rattle.records.specs.declared.words.Entry.{Entry}
+use Rattle.words.specs.declared.Sent.{Sent}
+use Rattle.words.specs.declared.Held.{Held}
+use Rattle.words.specs.declared.Entry.{Entry}
 use Rattle.records.specs.declared.Sender.{Sender}
 use Rattle.records.specs.declared.Receiver.{Receiver}
 use Rattle.records.specs.declared.Queue.{Queue}
@@ -21,7 +21,7 @@ use Rattle.records.specs.declared.StreamState.{StreamState}
 use Rattle.records.specs.declared.StreamState.the-variants as state
 use Rattle.records.specs.declared.Stream.{Stream}
 use Rattle.records.specs.declared.Totals.{Totals}
-use Rattle.records.specs.Words.{sentOf, sentWord, sentTime, isStored, heldOf, isHeld, entryOf}
+use Rattle.words.specs.Words.{sentIn, sentWord, sentTime, isStored, heldOf, isHeld, entryOf}
 use Rattle.records.specs.Table.{table}
 use Rattle.records.specs.Cut.{cut, outgoingSlot, incomingSlot, headerSlot}
 
@@ -36,9 +36,6 @@ marksOf p = record { waiting = p .waiting; transmits = p .transmits; sent = cond
 
 abbrev pub packetOf : Bytes → ℕ → Sent → model.Packet
 packetOf store i p = record { bytes = cut outgoingSlot store i (p .length); marks = marksOf p }
-
-abbrev pub sentIn : List ℕ → ℕ → Sent
-sentIn words i = sentOf (getD words i 0) (getD words (32 + i) 0)
 
 -- the words after packet p was put into the slot of number n
 abbrev pub withSent : List ℕ → ℕ → Sent → List ℕ

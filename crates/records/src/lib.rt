@@ -1,13 +1,9 @@
 // The records of a stream: its numbers by value, in the groups of the model; its packets and its queue as words of lent arrays; the
 // bytes in three lent stores. specs/Seen.antt says what they mean.
-mod lengths;
 mod opening;
-mod words;
 
 use error::Outcome;
 use error::UdxError;
-pub use lengths::least;
-pub use lengths::word_count;
 pub use opening::Opened;
 pub use opening::open;
 use rtt::Nanos;
@@ -24,10 +20,12 @@ pub use words::is_held;
 pub use words::is_short;
 pub use words::is_sized;
 pub use words::is_stored;
+pub use words::least;
 pub use words::put_entry;
 pub use words::put_held;
 pub use words::put_sent;
 pub use words::same_packet;
+pub use words::word_count;
 
 pub struct Ids {
     pub local: u32,

@@ -19,11 +19,12 @@ use Rattle.records.specs.declared.Queue.{Queue}
 use Rattle.records.specs.declared.Totals.{Totals}
 use Rattle.records.specs.declared.Stream.{Stream}
 use Rattle.records.specs.Seen.{Lent, seen, seenSender, formedQueue}
-use Rattle.sending.specs.declared.Outbox.{Outbox}
-use Rattle.sending.specs.Piece.{mayGo, Room, SendsPiece}
-use Rattle.sending.specs.Write.{withOutbox, withSent, Ready, Writes}
+use Rattle.pieces.specs.declared.Outbox.{Outbox}
+use Rattle.pieces.specs.Piece.{mayGo, Room, SendsPiece}
+use Rattle.pieces.specs.Piece.{withOutbox, withSent}
+use Rattle.sending.specs.Write.{Ready, Writes}
 use Rattle.sending.proofs.WriteLoop.{writeAll, joined, all-empty, all-stop, all-turn, piece-is, piece-length, rest-is}
-use Rattle.sending.proofs.SentPiece.{piece-seen, piece-formed, sent-length, queue-length, store-length}
+use Rattle.pieces.proofs.SentPiece.{piece-seen, piece-formed, sent-length, queue-length, store-length}
 
 -- what is seen of a stream with the numbers of an outbox
 abbrev seenOf : Outbox → (sent queue outgoing : List ℕ) → Stream → Lent → End

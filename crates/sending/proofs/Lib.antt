@@ -1,3 +1,2 @@
 pub mod WriteLoop
-pub mod SentPiece
 pub mod Going

@@ -1,2 +1,1 @@
-pub mod Piece
 pub mod Write

@@ -7,26 +7,9 @@ use lib.ListN.{length, drop}
 use Rattle.model.specs.Sending.{piece, goes, writeLoop}
 use Rattle.records.specs.declared.Stream.{Stream}
 use Rattle.records.specs.Seen.{Lent, seen, seenSender, formedQueue}
-use Rattle.sending.specs.declared.Outbox.{Outbox}
+use Rattle.pieces.specs.declared.Outbox.{Outbox}
+use Rattle.pieces.specs.Piece.{withOutbox, withSent}
 use Rattle.sending.specs.declared.Written.{Written}
-
--- a stream with the numbers of an outbox
-abbrev pub withOutbox : Outbox → Stream → Stream
-withOutbox o s =
-    record {
-      ids = s .ids;
-      sender = o .sender;
-      receiver = s .receiver;
-      queue = o .queue;
-      timing = s .timing;
-      ending = s .ending;
-      clocks = s .clocks;
-    }
-
--- the lent words and bytes that a write changes
-abbrev pub withSent : (sent queue outgoing : List ℕ) → Lent → Lent
-withSent sent queue outgoing l =
-    record { sent = sent; held = l .held; queue = queue; outgoing = outgoing; incoming = l .incoming; headers = l .headers }
 
 -- what 01's rules give a write: nothing is left to take, the store and the queue have room for what may go
 pub record Ready (o : Outbox) (store : ℕ) : Type 0 where

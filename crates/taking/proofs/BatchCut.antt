@@ -22,7 +22,8 @@ use Rattle.model.proofs.Gate.{and-left, and-right}
 use Rattle.model.proofs.LineTake.{cut-joined, count-joined, whole-joined}
 use Rattle.records.specs.Seen.{seenQueue, seen}
 use Rattle.records.proofs.SeenOutgoing.{outgoing-length}
-use Rattle.taking.specs.Take.{sendEntry, sendLoop}
+use Rattle.transmitting.specs.Transmit.{sendEntry}
+use Rattle.taking.specs.Take.{sendLoop}
 use Rattle.taking.specs.Batches.{thereOf, firstOf, BatchesCut, RecordsCut}
 use Rattle.taking.proofs.RulesTake.{rules-read}
 use Rattle.taking.proofs.TakeSome.{sentEntry}

@@ -1,9 +1,6 @@
 pub mod BatchCut
-pub mod LeftWords
 pub mod LookNext
 pub mod NextBatch
 pub mod RulesTake
-pub mod SameSize
 pub mod TakeModel
-pub mod TakeOne
 pub mod TakeSome

@@ -15,17 +15,18 @@ use Rattle.model.specs.Lists.{Bytes}
 use Rattle.model.specs.Slots.{ceiling}
 use Rattle.model.specs.Stream as model
 use Rattle.model.specs.Driving.{firstThere, look}
-use Rattle.records.specs.declared.words.Entry.{Entry}
+use Rattle.words.specs.declared.Entry.{Entry}
 use Rattle.records.specs.declared.Sender.{Sender}
 use Rattle.records.specs.declared.Queue.{Queue}
-use Rattle.records.specs.Words.{entryOf}
+use Rattle.words.specs.Words.{sentIn, entryOf}
 use Rattle.records.specs.Cut.{cut, outgoingSlot, headerSlot}
-use Rattle.records.specs.Seen.{sentIn, seenEntries, seenQueue, entryWords, seen, stateWords, QueueFormed}
+use Rattle.records.specs.Seen.{seenEntries, seenQueue, entryWords, seen, stateWords, QueueFormed}
 use Rattle.records.proofs.SeenQueue.{left-length, entries-length}
 use Rattle.taking.specs.declared.Next.{Next}
-use Rattle.taking.specs.Take.{Stored, Kept, storeSeen, isThere, nextSeen, nextBytes, Finds, Shows}
-use Rattle.taking.proofs.LeftWords.{entry-at, states-next, states-less}
-use Rattle.taking.proofs.TakeOne.{state-bytes, packet-bytes, get-there, there-low, there-high, there-stored}
+use Rattle.transmitting.specs.Transmit.{storeSeen, isThere}
+use Rattle.taking.specs.Take.{Stored, Kept, nextSeen, nextBytes, Finds, Shows}
+use Rattle.batching.proofs.LeftWords.{entry-at, states-next, states-less}
+use Rattle.transmitting.proofs.TakeOne.{state-bytes, packet-bytes, get-there, there-low, there-high, there-stored}
 
 -- what stands behind the first of some entries
 drop-next : (i : ℕ) (q : List model.Entry) (x : model.Entry) (rest : List model.Entry) → drop i q ≡ x ∷ rest → drop (i + 1) q ≡ rest

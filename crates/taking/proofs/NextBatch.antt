@@ -9,8 +9,9 @@ use Rattle.records.specs.declared.Queue.{Queue}
 use Rattle.records.specs.declared.Sender.{Sender}
 use Rattle.records.specs.Seen.{seen}
 use Rattle.taking.specs.declared.Handed.{Handed}
-use Rattle.taking.specs.declared.Progress.{Progress}
-use Rattle.taking.specs.Take.{Batched, Heads, takenStream, takenLent, Takeable, Took, Takes, TakesQueue, Sendable, segmentSize, HandsOut}
+use Rattle.transmitting.specs.declared.Progress.{Progress}
+use Rattle.batching.specs.Batch.{Batched, Heads}
+use Rattle.taking.specs.Take.{takenStream, takenLent, Takeable, Took, Takes, TakesQueue, Sendable, segmentSize, HandsOut}
 
 module _ (q : Queue) (s : Sender) (segments clock : ℕ) (sent queue : List ℕ) (outgoing headers buf : Bytes)
     (ready : Sendable q s segments clock sent queue outgoing headers buf) (k : ℕ) (b : Batched q segments queue k) where

@@ -19,7 +19,8 @@ use Rattle.model.proofs.SlotSums.{get-slot}
 use Rattle.model.proofs.Gate.{and-left, and-right}
 use Rattle.records.specs.declared.Stream.{Stream}
 use Rattle.records.specs.declared.Totals.{Totals}
-use Rattle.records.specs.Seen.{sentIn, packetOf, Lent, seen, QueueFormed}
+use Rattle.words.specs.Words.{sentIn}
+use Rattle.records.specs.Seen.{packetOf, Lent, seen, QueueFormed}
 use Rattle.records.proofs.Cut.{cut-length}
 use Rattle.records.proofs.SeenOutgoing.{get-outgoing}
 use Rattle.taking.specs.Take.{Lends, Stored, Kept, Sendable}

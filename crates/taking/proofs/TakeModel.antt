@@ -22,8 +22,9 @@ use Rattle.records.specs.Put.{put}
 use Rattle.records.specs.Seen.{seenOutgoing, seenQueue, entryWords, Lent, seen, stateWords}
 use Rattle.records.proofs.SeenQueue.{queue-take, queue-last}
 use Rattle.records.proofs.FormedQueue.{formed-take, formed-empty}
-use Rattle.taking.specs.declared.Progress.{Progress}
-use Rattle.taking.specs.Take.{Lends, Sends, sendEntry, sendLoop, storeSeen, Written, takenQueue, takenStream, takenLent, Took, Takes, TakesQueue}
+use Rattle.transmitting.specs.declared.Progress.{Progress}
+use Rattle.transmitting.specs.Transmit.{Sends, sendEntry, storeSeen, Written}
+use Rattle.taking.specs.Take.{Lends, sendLoop, takenQueue, takenStream, takenLent, Took, Takes, TakesQueue}
 use Rattle.taking.proofs.TakeSome.{sentEntry, Going}
 
 -- the model's end with another outgoing store

@@ -16,21 +16,23 @@ use Rattle.model.specs.Stream as model
 use Rattle.model.specs.Driving.{marked, takenMarks}
 use Rattle.model.proofs.Lists.{joined-append}
 use Rattle.model.proofs.Slots.{no-some, some-inj, insert-cases}
-use Rattle.records.specs.declared.words.Entry.{Entry}
+use Rattle.words.specs.declared.Entry.{Entry}
 use Rattle.records.specs.declared.Sender.{Sender}
 use Rattle.records.specs.declared.Queue.{Queue}
-use Rattle.records.specs.Words.{entryOf}
+use Rattle.words.specs.Words.{sentIn, entryOf}
 use Rattle.records.specs.Cut.{outgoingSlot}
 use Rattle.records.specs.Put.{put}
-use Rattle.records.specs.Seen.{sentIn, seenEntries, entryWords, stateWords}
+use Rattle.records.specs.Seen.{seenEntries, entryWords, stateWords}
 use Rattle.records.proofs.Cut.{cut-length}
 use Rattle.records.proofs.Put.{put-put}
 use Rattle.records.proofs.SeenOutgoing.{outgoing-length}
 use Rattle.records.proofs.SeenQueue.{left-length}
-use Rattle.taking.specs.declared.Progress.{Progress}
-use Rattle.taking.specs.Take.{Stored, Sends, sendEntry, sendLoop, entrySeen, storeSeen, isThere, Written, EntryKept, TakesEntry, Takeable}
-use Rattle.taking.proofs.LeftWords.{entry-at, states-next, states-less}
-use Rattle.taking.proofs.TakeOne.{slotSeen, get-there, there-low, there-high, there-stored, written-none}
+use Rattle.transmitting.specs.declared.Progress.{Progress}
+use Rattle.batching.specs.Batch.{entrySeen}
+use Rattle.transmitting.specs.Transmit.{Sends, sendEntry, storeSeen, isThere, Written, EntryKept, TakesEntry}
+use Rattle.taking.specs.Take.{Stored, sendLoop, Takeable}
+use Rattle.batching.proofs.LeftWords.{entry-at, states-next, states-less}
+use Rattle.transmitting.proofs.TakeOne.{slotSeen, get-there, there-low, there-high, there-stored, written-none}
 
 -- one entry more
 

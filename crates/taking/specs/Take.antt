@@ -1,31 +1,29 @@
--- What the functions of this crate promise: how many entries a batch has, what taking them puts into the buffer and marks in the
--- records, the queue after it, and the next datagram. Each promise speaks of the end of the model that is seen of the records
--- (`seen`), for any stream that has the numbers, words and stores which the function is given. Assumes nothing.
-use Prim.Native.Nat.{ℕ, zero, suc, _+_, _-_, _*_, _%_, _^_, _≤_, _<_}
+-- What the functions of this crate promise: what taking entries puts into the buffer and marks in the records, the queue after it, and the
+-- next datagram. Each promise speaks of the end of the model that is seen of the records (`seen`), for any stream that has the numbers,
+-- words and stores which the function is given. Assumes nothing.
+use Prim.Native.Nat.{ℕ, zero, suc, _+_, _-_, _%_, _^_, _≤_, _<_}
 use mathlib.Core.Path.{_≡_}
 use mathlib.Core.List.{List, [], _∷_, _++_}
-use mathlib.Core.Bool.{Bool, true, cond, _&&_}
-use lib.Dec.{eqb, leb, ltb}
-use lib.ListN.{length, take, drop}
-use Rattle.model.specs.Lists.{Bytes, joined, on}
-use Rattle.model.specs.Slots.{Slots, ceiling, get, insert}
+use mathlib.Core.Bool.{true, cond}
+use lib.Dec.{eqb, ltb}
+use lib.ListN.{length, take}
+use Rattle.model.specs.Lists.{Bytes, joined}
+use Rattle.model.specs.Slots.{Slots, ceiling}
 use Rattle.model.specs.Stream as model
 use Rattle.model.specs.Rules.{rules}
-use Rattle.model.specs.Driving.{headLength, batch, marked, takenMarks, takeLoop, takenFrom, firstThere, look}
-use Rattle.records.specs.declared.words.Sent.{Sent}
-use Rattle.records.specs.declared.words.Entry.{Entry}
+use Rattle.model.specs.Driving.{headLength, batch, takeLoop, takenFrom, firstThere, look}
 use Rattle.records.specs.declared.Sender.{Sender}
 use Rattle.records.specs.declared.Queue.{Queue}
 use Rattle.records.specs.declared.Stream.{Stream}
 use Rattle.records.specs.declared.Totals.{Totals}
-use Rattle.records.specs.Words.{isStored}
+use Rattle.words.specs.Words.{sentIn, isStored}
 use Rattle.records.specs.Cut.{cut, outgoingSlot, headerSlot}
 use Rattle.records.specs.Put.{put}
-use Rattle.records.specs.Seen.{sentIn, seenOutgoing, seenQueue, entryWords, Lent, seen, withSent, stateWords, QueueFormed}
-use Rattle.rtt.specs.Estimate.{nanos}
+use Rattle.records.specs.Seen.{seenQueue, entryWords, Lent, seen, stateWords, QueueFormed}
 use Rattle.taking.specs.declared.Handed.{Handed}
-use Rattle.taking.specs.declared.Progress.{Progress}
+use Rattle.transmitting.specs.declared.Progress.{Progress}
 use Rattle.taking.specs.declared.Next.{Next}
+use Rattle.transmitting.specs.Transmit.{Within, Sends, sendEntry, storeSeen}
 
 -- the records that a function is given
 
@@ -38,12 +36,7 @@ pub record Lends (st : Stream) (l : Lent) (q : Queue) (s : Sender) (sent queue :
   pub store : l .outgoing ≡ outgoing
   pub heads : l .headers ≡ headers
 
--- 01, 'Rules of the records': "lengths are 21 to 1,400 stored"; "transmits are at most 7"
-pub record Within (p : Sent) (transmits : ℕ) : Type 0 where
-  pub short : p .length ≤ 1_400
-  pub few : p .transmits ≤ transmits
-
--- the same of every stored packet, from remote acked to below seq
+-- every stored packet is within these bounds, from remote acked to below seq
 abbrev pub Stored : Sender → List ℕ → ℕ → Type 0
 Stored s sent transmits =
     (n : ℕ) → s .«remote_acked» ≤ n → n < s .seq → isStored (sentIn sent (n % ceiling)) n ≡ true → Within (sentIn sent (n % ceiling)) transmits
@@ -55,54 +48,9 @@ pub record Kept (q : Queue) (s : Sender) (sent queue : List ℕ) (outgoing heade
   pub slots : length outgoing ≡ 44_800
   pub places : length headers ≡ 1_280
 
--- batch
-
--- the bytes of an entry's datagram, a state packet being a header
-abbrev pub entrySize : Entry → ℕ
-entrySize x = cond (x .state) 20 (x .length)
-
--- 01, call 5: "the next batch, at most the ceiling of equal-length entries" (poll_transmit)
-pub record Batched (q : Queue) (segments : ℕ) (queue : List ℕ) (r : ℕ) : Type 0 where
-  pub count : (st : Stream) (t : Totals) (l : Lent) → st .queue ≡ q → st .ids .segments ≡ segments → l .queue ≡ queue → r ≡ batch (seen st t l)
-  pub some : 1 ≤ segments → 1 ≤ r
-  pub most : r ≤ segments
-  pub left : r ≤ q .left
-
--- the first entry's length
-pub record Heads (q : Queue) (queue : List ℕ) (r : ℕ) : Type 0 where
-  pub size : (st : Stream) (t : Totals) (l : Lent) → st .queue ≡ q → l .queue ≡ queue → r ≡ headLength (seen st t l .queue .entries)
-
 -- to_transmit
 
--- 01, call 5: "that packet gets time sent = clock of that drive and one transmit more"
-abbrev pub takenPacket : Sent → ℕ → Sent
-takenPacket p clock =
-    record { number = p .number; length = p .length; transmits = p .transmits + 1; waiting = p .waiting; timed = true; «sent_at» = nanos clock }
-
--- a state packet's bytes are put
-pub record TakesState (p : Progress) (headers buf : Bytes) (r : Progress) (buf′ : Bytes) : Type 0 where
-  pub bytes : buf′ ≡ put buf (p .at) (take 20 (drop (p .place * 20) headers))
-  pub at : r .at ≡ p .at + 20
-  pub place : r .place ≡ p .place + 1
-
--- a stored packet's bytes are put, and it is marked
-pub record TakesPacket (p : Progress) (x : Sent) (clock : ℕ) (sent : List ℕ) (outgoing buf : Bytes) (r : Progress) (sent′ : List ℕ) (buf′ : Bytes) : Type 0 where
-  pub bytes : buf′ ≡ put buf (p .at) (take (x .length) (drop (x .number % 32 * 1_400) outgoing))
-  pub marks : sent′ ≡ withSent sent (x .number) (takenPacket x clock)
-  pub at : r .at ≡ p .at + x .length
-  pub place : r .place ≡ p .place
-
--- the model's takeEntry and takeLoop on the outgoing store alone: the datagrams of some entries, and the store after them
-pub record Sends : Type 0 where
-  pub datagrams : List Bytes
-  pub outgoing : Slots model.Packet
-
-unfoldable pub sendEntry : (clock : ℕ) → model.Entry → Slots model.Packet → Sends
-sendEntry clock (model.state b) s = record { datagrams = b ∷ []; outgoing = s }
-sendEntry clock (model.packet n l) s =
-    on (get s n) (record { datagrams = []; outgoing = s })
-    (λ p. record { datagrams = p .bytes ∷ []; outgoing = insert s n (marked (takenMarks clock) p) })
-
+-- the model's takeLoop on the outgoing store alone
 unfoldable pub sendLoop : (clock count : ℕ) → List model.Entry → Slots model.Packet → Sends
 sendLoop clock zero q s = record { datagrams = []; outgoing = s }
 sendLoop clock (suc k) [] s = record { datagrams = []; outgoing = s }
@@ -110,42 +58,6 @@ sendLoop clock (suc k) (x ∷ q) s =
     let t = sendEntry clock x s in
     let r = sendLoop clock k q (t .outgoing) in
     record { datagrams = t .datagrams ++ r .datagrams; outgoing = r .outgoing }
-
--- what an entry is in the model, a state packet's bytes being at `place` of the header store
-abbrev pub entrySeen : Bytes → ℕ → Entry → model.Entry
-entrySeen headers place x = cond (x .state) (model.state (cut headerSlot headers place 20)) (model.packet (x .number) (x .length))
-
--- what is stored, seen
-abbrev pub storeSeen : Sender → List ℕ → Bytes → Slots model.Packet
-storeSeen s sent outgoing = seenOutgoing (s .«remote_acked») (s .seq) sent outgoing
-
--- the datagrams stand one after another in the buffer from `at` to `end`, the bytes past them stay, and the packets are marked
-pub record Written (t : Sends) (at : ℕ) (buf : Bytes) (end : ℕ) (buf′ : Bytes) (marked : Slots model.Packet) : Type 0 where
-  pub bytes : buf′ ≡ put buf at (joined (t .datagrams))
-  pub count : end ≡ at + length (joined (t .datagrams))
-  pub marks : marked ≡ t .outgoing
-
--- packet n is stored, of the numbers and in its slot
-abbrev pub isThere : Sender → List ℕ → ℕ → Bool
-isThere s sent n = leb (s .«remote_acked») n && (ltb n (s .seq) && isStored (sentIn sent (n % ceiling)) n)
-
--- what taking one entry needs: its packet keeps the rules but for the marks of this take, and its bytes have room
-pub record EntryKept (s : Sender) (x : Entry) (clock : ℕ) (p : Progress) (sent : List ℕ) (outgoing headers buf : Bytes) : Type 0 where
-  pub words : length sent ≡ 64
-  pub packet : isThere s sent (x .number) ≡ true → Within (sentIn sent (x .number % ceiling)) 30
-  pub drive : clock < 2 ^ 60
-  pub slots : length outgoing ≡ 44_800
-  pub places : length headers ≡ 1_280
-  pub next : x .state ≡ true → p .place < 64
-  pub room : p .at + 1_400 ≤ length buf
-
--- one entry is taken; "An entry whose packet has left the store counts but writes nothing"
-pub record TakesEntry (s : Sender) (x : Entry) (clock : ℕ) (p : Progress) (sent : List ℕ) (outgoing headers buf : Bytes) (r : Progress)
-    (sent′ : List ℕ) (buf′ : Bytes) : Type 0 where
-  pub written : Written (sendEntry clock (entrySeen headers (p .place) x) (storeSeen s sent outgoing)) (p .at) buf (r .at) buf′ (storeSeen s sent′ outgoing)
-  pub place : r .place ≡ p .place + cond (x .state) 1 0
-  pub short : r .at ≤ p .at + 1_400
-  pub words : length sent′ ≡ length sent
 
 -- the queue without its first k entries, `place` being that of the next state packet; with the last one taken it is empty, and the
 -- places start again

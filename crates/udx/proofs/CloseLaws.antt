@@ -32,7 +32,8 @@ use Rattle.closing.proofs.StatePacket.{terminate-seen}
 use Rattle.answers.specs.Steps.{refusedStep}
 use Rattle.udx.specs.Agree.{laidOut, Agrees, Answers}
 use Rattle.answers.specs.Close.{closedStep}
-use Rattle.answers.specs.Refusals.{brokenRecords, verdictOf, closeVerdict}
+use Rattle.broken_records.specs.Broken.{brokenRecords}
+use Rattle.refusals.specs.Verdicts.{verdictOf, closeVerdict}
 use Rattle.udx.proofs.RefusalLaws.{line, clear-line, refusal-one, is-refused, is-clear, acts-on, whyOf, refused-answers}
 use Rattle.udx.proofs.Resting.{ready}
 use Rattle.udx.proofs.Unbroken.{Whole, unbroken, still-laid, places-used}

@@ -20,15 +20,16 @@ use Rattle.records.specs.declared.Stream.{Stream}
 use Rattle.records.specs.declared.Totals.{Totals}
 use Rattle.records.specs.Seen.{Lent, seen, seenQueue, formedReceiver}
 use Rattle.records.specs.Open.{storesTest}
-use Rattle.driving.specs.Draining.{Drains}
+use Rattle.draining.specs.Draining.{Drains}
 use Rattle.driving.proofs.RulesDrive.{rules-stored}
-use Rattle.polling.specs.declared.Polled.{Polled}
-use Rattle.polling.specs.Timeouts.{withPolled}
+use Rattle.settling.specs.declared.Polled.{Polled}
+use Rattle.timeouts.specs.Timeouts.{withPolled}
 use Rattle.polling.specs.Poll.{Drivable, Polls}
 use Rattle.answers.specs.Steps.{refusedStep}
 use Rattle.udx.specs.Agree.{onRecords, Agrees, Answers}
 use Rattle.answers.specs.Drive.{doneStep, polledStep}
-use Rattle.answers.specs.Refusals.{brokenRecords, earlyVerdict}
+use Rattle.broken_records.specs.Broken.{brokenRecords}
+use Rattle.refusals.specs.Verdicts.{earlyVerdict}
 use Rattle.udx.proofs.EarlyLaws.{early-says, early-clear, early-clock}
 use Rattle.udx.proofs.RefusalLaws.{is-refused, is-clear, acts-on, refused-answers}
 use Rattle.udx.proofs.Resting.{ready}

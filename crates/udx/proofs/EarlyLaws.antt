@@ -14,7 +14,8 @@ use Rattle.model.specs.Driving.{driveRefusal}
 use Rattle.records.specs.declared.Stream.{Stream}
 use Rattle.records.specs.declared.Totals.{Totals}
 use Rattle.records.specs.Seen.{Lent, seen, seenQueue}
-use Rattle.answers.specs.Refusals.{brokenRecords, verdictOf, earlyVerdict}
+use Rattle.broken_records.specs.Broken.{brokenRecords}
+use Rattle.refusals.specs.Verdicts.{verdictOf, earlyVerdict}
 use Rattle.udx.proofs.RefusalLaws.{line, clear-line, refusal-one, whyOf}
 
 or-left : (a b : Bool) → (a || b) ≡ false → a ≡ false

@@ -16,7 +16,7 @@ use Rattle.taking.specs.Take.{Kept, Shows}
 use Rattle.taking.proofs.RulesTake.{own-lends, rules-kept}
 use Rattle.udx.specs.Agree.{laidOut}
 use Rattle.udx.specs.Look.{shownOf}
-use Rattle.answers.specs.Refusals.{brokenRecords}
+use Rattle.broken_records.specs.Broken.{brokenRecords}
 use Rattle.udx.proofs.Unbroken.{unbroken, still-laid}
 
 nothing : (differ laid kept left : Bool) (shown : Bytes) → (differ || not (laid && kept)) ≡ true → [] ≡ cond (not differ && laid) (cond (kept && left) shown []) []

@@ -24,7 +24,7 @@ use Rattle.records.specs.declared.Receiver.{Receiver}
 use Rattle.records.specs.declared.Stream.{Stream}
 use Rattle.records.specs.declared.Totals.{Totals}
 use Rattle.records.specs.Put.{put}
-use Rattle.records.specs.Words.{heldOf, isHeld}
+use Rattle.words.specs.Words.{heldOf, isHeld}
 use Rattle.records.specs.Seen.{Lent, seen, formedReceiver}
 use Rattle.rules.specs.Ok.{okStream, clocksOk}
 use Rattle.packet_rules.specs.Packets.{okReceiver, okSender, everyFrom, heldOk}
@@ -33,7 +33,8 @@ use Rattle.receiving.specs.Reading.{HeldFit, Readable, HasRead}
 use Rattle.receiving.proofs.LaidLaws.{laid-said, laid-says}
 use Rattle.answers.specs.Steps.{refusedStep}
 use Rattle.udx.specs.Agree.{onRecords, Agrees}
-use Rattle.answers.specs.Refusals.{brokenRecords, verdictOf}
+use Rattle.broken_records.specs.Broken.{brokenRecords}
+use Rattle.refusals.specs.Verdicts.{verdictOf}
 use Rattle.answers.specs.Read.{outcomeOf, readStream, readStep}
 use Rattle.udx.specs.Read.{readLent, Gives}
 use Rattle.udx.proofs.RefusalLaws.{refusal-one, whyOf, is-refused, is-clear, acts-on, refused-agrees, puts-nothing}

@@ -27,7 +27,8 @@ use Rattle.records.specs.Open.{storesTest}
 use Rattle.rules.proofs.Seen.{ok-seen}
 use Rattle.answers.specs.Steps.{refusedStep}
 use Rattle.udx.specs.Agree.{laidOut, onRecords, Agrees, Answers}
-use Rattle.answers.specs.Refusals.{brokenRecords, verdictOf, errorVerdict, writeVerdict}
+use Rattle.broken_records.specs.Broken.{brokenRecords}
+use Rattle.refusals.specs.Verdicts.{verdictOf, errorVerdict, writeVerdict}
 
 -- one line of a list
 pub line : (b : Bool) (why : Refusal) (v : Verdict) (o : Option Refusal) → v ≡ verdictOf o → cond b (Refused why) v ≡ verdictOf (cond b (some why) o)

@@ -16,8 +16,8 @@ use Rattle.model.proofs.Gate.{and-left, and-right}
 use Rattle.model.proofs.RulesKept.{rules-say, sum-most, distinct-few}
 use Rattle.records.specs.declared.Stream.{Stream}
 use Rattle.records.specs.declared.Totals.{Totals}
-use Rattle.records.specs.Words.{isStored}
-use Rattle.records.specs.Seen.{Lent, sentIn, outgoingSlotAt, seen, seenOutgoing, seenQueue, entryWords}
+use Rattle.words.specs.Words.{sentIn, isStored}
+use Rattle.records.specs.Seen.{Lent, outgoingSlotAt, seen, seenOutgoing, seenQueue, entryWords}
 use Rattle.records.proofs.Table.{table-length}
 use Rattle.records.proofs.SeenQueue.{entries-length, rest-length}
 use Rattle.rules.specs.Ok.{okStream, clocksOk}

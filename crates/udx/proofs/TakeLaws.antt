@@ -32,7 +32,8 @@ use Rattle.taking.proofs.RulesTake.{own-lends, rules-take}
 use Rattle.udx.specs.Agree as agree
 use Rattle.answers.specs.Steps.{refusedStep}
 use Rattle.udx.specs.Agree.{onRecords, Agrees}
-use Rattle.answers.specs.Refusals.{brokenRecords, verdictOf, takeVerdict}
+use Rattle.broken_records.specs.Broken.{brokenRecords}
+use Rattle.refusals.specs.Verdicts.{verdictOf, takeVerdict}
 use Rattle.answers.specs.Take.{nothingStep, takenStep}
 use Rattle.udx.specs.Take.{Hands}
 use Rattle.udx.proofs.RefusalLaws.{line, refusal-one, whyOf, is-refused, is-clear, acts-on, clear-line, refused-answers, puts-nothing}

@@ -17,7 +17,7 @@ use Rattle.records.proofs.FormedQueue.{queue-says}
 use Rattle.rules.specs.Ok.{okStream}
 use Rattle.rules.proofs.Seen.{ok-says}
 use Rattle.udx.specs.Agree.{laidOut}
-use Rattle.answers.specs.Refusals.{brokenRecords}
+use Rattle.broken_records.specs.Broken.{brokenRecords}
 
 -- the parts of `laidOut`
 pub still-laid : (s : Stream) (l : Lent) → storesTest (l .outgoing) (l .incoming) (l .headers) ≡ false → formedReceiver (s .receiver) ≡ true

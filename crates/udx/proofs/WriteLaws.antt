@@ -22,11 +22,13 @@ use Rattle.records.specs.declared.Totals.{Totals}
 use Rattle.records.specs.Seen.{Lent, seen}
 use Rattle.records.specs.Open.{storesTest}
 use Rattle.sending.specs.declared.Written.{Written}
+use Rattle.pieces.specs.Piece.{withSent}
 use Rattle.sending.specs.Write as sending
 use Rattle.answers.specs.declared.step.Step.{Step}
 use Rattle.answers.specs.Steps.{refusedStep}
 use Rattle.udx.specs.Agree.{onRecords, Agrees, Answers}
-use Rattle.answers.specs.Refusals.{brokenRecords, verdictOf, writeVerdict}
+use Rattle.broken_records.specs.Broken.{brokenRecords}
+use Rattle.refusals.specs.Verdicts.{verdictOf, writeVerdict}
 use Rattle.answers.specs.Write.{outboxOf, outcomeOf, writtenStep}
 use Rattle.udx.proofs.RefusalLaws.{write-list, is-refused, is-clear, acts-on, whyOf, clear-line, refused-answers}
 use Rattle.udx.proofs.Resting.{ready}
@@ -77,7 +79,7 @@ module _ (s : Stream) (t : Totals) (l : Lent) (bytes : Bytes) (len : length (l .
         (x : sending.Writes (outboxOf s t) (s .ids .remote) (s .receiver .ack) bytes (l .sent) (l .queue) (l .outgoing) w sent′ queue′ outgoing′)
         (same : length outgoing′ ≡ length (l .outgoing)) where
       abbrev after : Lent
-      after = sending.withSent sent′ queue′ outgoing′ l
+      after = withSent sent′ queue′ outgoing′ l
 
       abbrev step : Step
       step = writtenStep s w (eqb (length bytes) 0)

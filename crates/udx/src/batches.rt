@@ -1,15 +1,15 @@
 // Take (poll_transmit, to_transmit).
-ghost use Rattle.answers.specs.Steps.{lent};
+ghost use Rattle.broken_records.specs.Broken.{lent};
 ghost use Rattle.udx.specs.Take.{Hands};
 use answers::Step;
-use answers::broken;
 use answers::nothing;
 use answers::refused;
-use answers::take_verdict;
 use answers::taken_step;
+use broken_records::broken;
 use error::Verdict;
 use records::Stream;
 use records::Totals;
+use refusals::take_verdict;
 use taking::next_batch;
 
 pub fn take(

@@ -1,16 +1,16 @@
 // Close (terminate with ConnectionReset).
 ghost use Rattle.model.specs.Sending as model;
-ghost use Rattle.answers.specs.Steps.{lent};
+ghost use Rattle.broken_records.specs.Broken.{lent};
 ghost use Rattle.udx.specs.Agree.{Answers};
 use answers::Step;
-use answers::broken;
-use answers::close_verdict;
 use answers::closed_step;
 use answers::refused;
+use broken_records::broken;
 use error::UdxError;
 use error::Verdict;
 use records::Stream;
 use records::Totals;
+use refusals::close_verdict;
 
 // "it replaces any earlier error and queues a state packet each time"
 pub fn close(

@@ -1,19 +1,19 @@
 // Deliver (process_packet, then handle_incoming).
 ghost use Rattle.model.specs.Receiving as model;
-ghost use Rattle.answers.specs.Steps.{lent};
+ghost use Rattle.broken_records.specs.Broken.{lent};
 ghost use Rattle.udx.specs.Agree.{Answers};
 use answers::Step;
-use answers::broken;
 use answers::delivered_step;
-use answers::early_verdict;
-use answers::header_verdict;
 use answers::refused;
+use broken_records::broken;
 use constants::UDX_HEADER_SIZE;
 use error::Verdict;
 use packet::Decoded;
 use packet::Header;
 use records::Stream;
 use records::Totals;
+use refusals::early_verdict;
+use refusals::header_verdict;
 use rtt::Nanos;
 
 pub fn deliver(

@@ -1,16 +1,16 @@
 // Drive (closed_and_drained, then poll_drive).
 ghost use Rattle.model.specs.Driving as model;
-ghost use Rattle.answers.specs.Steps.{lent};
+ghost use Rattle.broken_records.specs.Broken.{lent};
 ghost use Rattle.udx.specs.Agree.{Answers};
 use answers::Step;
-use answers::broken;
 use answers::done_step;
-use answers::early_verdict;
 use answers::polled_step;
 use answers::refused;
+use broken_records::broken;
 use error::Verdict;
 use records::Stream;
 use records::Totals;
+use refusals::early_verdict;
 use rtt::Nanos;
 
 pub fn drive(
@@ -34,7 +34,7 @@ pub fn drive(
             let error = ending.error;
             let q = s.queue;
             let sender = s.sender;
-            if driving::drained(error, q, sender, sent) {
+            if draining::drained(error, q, sender, sent) {
                 return done_step(s, t, clock);
             }
             let p = polling::poll_drive(s, t, clock, sent, queue, headers);

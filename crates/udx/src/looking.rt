@@ -1,8 +1,8 @@
 // Look: the next datagram, without taking it.
 ghost use mathlib.Core.Path.{_≡_};
-ghost use Rattle.answers.specs.Steps.{lent};
+ghost use Rattle.broken_records.specs.Broken.{lent};
 ghost use Rattle.udx.specs.Look.{shownOf};
-use answers::broken;
+use broken_records::broken;
 use records::Stream;
 use records::Totals;
 

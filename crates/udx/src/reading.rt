@@ -1,10 +1,10 @@
 // Read (read_next, poll_read).
-ghost use Rattle.answers.specs.Steps.{lent};
+ghost use Rattle.broken_records.specs.Broken.{lent};
 ghost use Rattle.udx.specs.Read.{Gives};
 use answers::Step;
-use answers::broken;
 use answers::read_step;
 use answers::refused;
+use broken_records::broken;
 use error::Refusal;
 use receiving::Read;
 use records::Stream;

@@ -1,16 +1,16 @@
 // Write (poll_write over send_data_packet).
 ghost use Rattle.model.specs.Sending as model;
-ghost use Rattle.answers.specs.Steps.{lent};
+ghost use Rattle.broken_records.specs.Broken.{lent};
 ghost use Rattle.udx.specs.Agree.{Answers};
 use answers::Step;
-use answers::broken;
 use answers::outbox;
 use answers::refused;
-use answers::write_verdict;
 use answers::written;
+use broken_records::broken;
 use error::Verdict;
 use records::Stream;
 use records::Totals;
+use refusals::write_verdict;
 
 pub fn write(
     s: Stream,

@@ -4,8 +4,8 @@ use Prim.Native.Nat.{_-_}
 use mathlib.Core.Path.{_≡_, _∙_}
 use mathlib.Core.List.{[]}
 use borrow.Author.Needs.{needs}
-use Rattle.taking.specs.Take.{isThere}
-use Rattle.taking.proofs.TakeOne.{test-there}
+use Rattle.transmitting.specs.Transmit.{isThere}
+use Rattle.transmitting.proofs.TakeOne.{test-there}
 use Rattle.taking.proofs.LookNext.{Searching, starts, none-there, state-there, packet-there, packet-gone}
 use Rattle.taking.proofs.next_entry.Statement.{statement}
 use Rattle.taking.proofs.next_entry.Tie as tie

@@ -2,7 +2,7 @@
 -- Assumes nothing.
 use borrow.Author.Needs.{needs}
 use Rattle.records.specs.Seen.{Lent}
-use Rattle.answers.specs.Steps.{lent}
+use Rattle.broken_records.specs.Broken.{lent}
 use Rattle.udx.proofs.TakeLaws.{take-refused, take-nothing, take-sendable, take-batch}
 use Rattle.udx.proofs.batches.take.Statement.{statement}
 use Rattle.udx.proofs.batches.take.Tie as tie

@@ -3,7 +3,7 @@
 use mathlib.Core.Path.{sym, _∙_}
 use borrow.Author.Needs.{needs}
 use Rattle.records.specs.Seen.{Lent}
-use Rattle.answers.specs.Steps.{lent}
+use Rattle.broken_records.specs.Broken.{lent}
 use Rattle.udx.proofs.CloseLaws.{close-says, close-refused, close-able, close-answers}
 use Rattle.udx.proofs.closed.close.Statement.{statement}
 use Rattle.udx.proofs.closed.close.Tie as tie

@@ -4,7 +4,7 @@ use native.Mathlib.Omega.{arith}
 use mathlib.Core.Path.{sym, _∙_}
 use borrow.Author.Needs.{needs}
 use Rattle.records.specs.Seen.{Lent}
-use Rattle.answers.specs.Steps.{lent}
+use Rattle.broken_records.specs.Broken.{lent}
 use Rattle.udx.proofs.DeliverLaws.{rest-of, early-refused, header-refused, long-enough, fields-refused, deliverable, deliver-answers}
 use Rattle.udx.proofs.datagrams.deliver.Statement.{statement}
 use Rattle.udx.proofs.datagrams.deliver.Tie as tie

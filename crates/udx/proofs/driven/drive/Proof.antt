@@ -1,7 +1,7 @@
 -- `udx::driven::drive` meets its contract: the refusals are the model's list, and what follows them is its answer. Assumes nothing.
 use borrow.Author.Needs.{needs}
 use Rattle.records.specs.Seen.{Lent}
-use Rattle.answers.specs.Steps.{lent}
+use Rattle.broken_records.specs.Broken.{lent}
 use Rattle.udx.proofs.DriveLaws.{drive-refused, at-rest, drivable, drive-done, drive-answers}
 use Rattle.udx.proofs.driven.drive.Statement.{statement}
 use Rattle.udx.proofs.driven.drive.Tie as tie

@@ -3,7 +3,7 @@
 use mathlib.Core.Path.{sym, _∙_}
 use borrow.Author.Needs.{needs}
 use Rattle.records.specs.Seen.{Lent}
-use Rattle.answers.specs.Steps.{lent}
+use Rattle.broken_records.specs.Broken.{lent}
 use Rattle.udx.proofs.LookLaws.{look-nothing, look-kept, look-shows}
 use Rattle.udx.proofs.looking.look.Statement.{statement}
 use Rattle.udx.proofs.looking.look.Tie as tie

@@ -3,7 +3,7 @@
 use mathlib.Core.Path.{sym, _∙_}
 use borrow.Author.Needs.{needs}
 use Rattle.records.specs.Seen.{Lent}
-use Rattle.answers.specs.Steps.{lent}
+use Rattle.broken_records.specs.Broken.{lent}
 use Rattle.udx.proofs.ReadLaws.{read-refused, read-readable, read-gives}
 use Rattle.udx.proofs.reading.read.Statement.{statement}
 use Rattle.udx.proofs.reading.read.Tie as tie

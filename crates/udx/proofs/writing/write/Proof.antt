@@ -2,7 +2,7 @@
 -- Assumes nothing.
 use borrow.Author.Needs.{needs}
 use Rattle.records.specs.Seen.{Lent}
-use Rattle.answers.specs.Steps.{lent}
+use Rattle.broken_records.specs.Broken.{lent}
 use Rattle.udx.proofs.WriteLaws.{write-refused, write-ready, write-answers}
 use Rattle.udx.proofs.writing.write.Statement.{statement}
 use Rattle.udx.proofs.writing.write.Tie as tie

@@ -1,0 +1,2 @@
+pub mod LeftWords
+pub mod SameSize

@@ -1,0 +1,2 @@
+pub mod SettleOne
+pub mod SettleAll
