@@ -26,5 +26,11 @@ pub use shim::{io, sync, task, time, udp};
 
 include!(concat!(env!("OUT_DIR"), "/original.rs"));
 
+pub mod command;
+pub mod compare;
 pub mod engine;
+pub mod generate;
+pub mod named;
+pub mod random;
 pub mod script;
+pub mod table;

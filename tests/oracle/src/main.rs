@@ -1,10 +1,115 @@
+//! `oracle`: see README.md.
+
+use oracle::compare::{self, Plan};
 use oracle::engine::ORIGINAL;
 use oracle::script::{self, Kind};
+use oracle::table::Table;
+use oracle::{generate, named};
 use std::io::{Read, Write};
+use std::path::Path;
+use std::process::ExitCode;
 
-fn main() {
-    let mut bytes = Vec::new();
-    std::io::stdin().read_to_end(&mut bytes).unwrap();
-    let kind = if std::env::args().nth(2).as_deref() == Some("drill") { Kind::Drill } else { Kind::Session };
-    std::io::stdout().write_all(&script::run(kind, &bytes, ORIGINAL)).unwrap();
+const USAGE: &str = "\
+usage: oracle run KIND                               runs the script on standard input and prints its lines
+       oracle generate KIND SEED COUNT FOLDER        writes random scripts SEED.. as FOLDER/SEED.script and .lines
+       oracle compare KIND SEED COUNT --port PROGRAM [--seconds N] [--jobs N]
+                                                     holds PROGRAM to the original on named and random scripts
+       oracle table KIND SEED COUNT                  counts what each command answers in random scripts
+       oracle named                                  prints the scripts written by hand and their lines
+KIND is session or drill. Status 0: all agree; 1: a difference; 2: bad usage or a file that cannot be had.
+";
+
+fn main() -> ExitCode {
+    let words: Vec<String> = std::env::args().skip(1).collect();
+    let words: Vec<&str> = words.iter().map(String::as_str).collect();
+    match command(&words) {
+        Ok(true) => ExitCode::SUCCESS,
+        Ok(false) => ExitCode::from(1),
+        Err(error) => {
+            eprintln!("oracle: {error}");
+            ExitCode::from(2)
+        }
+    }
+}
+
+fn command(words: &[&str]) -> Result<bool, String> {
+    match words {
+        ["run", kind] => {
+            let mut bytes = Vec::new();
+            std::io::stdin().take(script::MAX_SCRIPT as u64).read_to_end(&mut bytes).map_err(|e| e.to_string())?;
+            print(&script::run(kind_of(kind)?, &bytes, ORIGINAL))?;
+            Ok(true)
+        }
+        ["generate", kind, seed, count, folder] => {
+            let (kind, seed, count) = (kind_of(kind)?, number(seed)?, number(count)?);
+            let folder = Path::new(folder);
+            for seed in seed..seed + count {
+                let one = generate::script(kind, seed);
+                save(&folder.join(format!("{seed}.script")), &one.bytes)?;
+                save(&folder.join(format!("{seed}.lines")), &one.lines)?;
+            }
+            Ok(true)
+        }
+        ["compare", kind, seed, count, options @ ..] => {
+            let option = |name: &str| options.chunks(2).find(|pair| pair[0] == name).and_then(|pair| pair.get(1).copied());
+            if options.len() % 2 != 0 || options.chunks(2).any(|p| !["--port", "--seconds", "--jobs"].contains(&p[0])) {
+                return Err(format!("compare: options not understood\n{USAGE}"));
+            }
+            let program = option("--port").ok_or(format!("compare needs --port PROGRAM\n{USAGE}"))?;
+            if !Path::new(program).is_file() {
+                return Err(format!("{program}: no such program"));
+            }
+            compare::compare(&Plan {
+                kind: kind_of(kind)?,
+                seed: number(seed)?,
+                count: number(count)?,
+                seconds: option("--seconds").map(number).transpose()?,
+                jobs: option("--jobs").map_or(Ok(2), number)?,
+                program: Path::new(program),
+            })
+        }
+        ["table", kind, seed, count] => {
+            let (kind, seed, count) = (kind_of(kind)?, number(seed)?, number(count)?);
+            let mut table = Table::default();
+            for seed in seed..seed + count {
+                table.add(&generate::script(kind, seed).features);
+            }
+            print(table.to_string().as_bytes())?;
+            Ok(true)
+        }
+        ["named"] => {
+            for one in named::all() {
+                let hex: String = one.bytes.iter().map(|byte| format!("{byte:02x}")).collect();
+                let lines = script::run(one.kind, &one.bytes, ORIGINAL);
+                print(format!("# {} ({})\n{hex}\n{}\n", one.name, one.kind.name(), String::from_utf8_lossy(&lines)).as_bytes())?;
+            }
+            Ok(true)
+        }
+        [] => Err(USAGE.into()),
+        [other, ..] => Err(format!("'{other}' is no command, or its words are not understood\n{USAGE}")),
+    }
+}
+
+fn kind_of(word: &str) -> Result<Kind, String> {
+    match word {
+        "session" => Ok(Kind::Session),
+        "drill" => Ok(Kind::Drill),
+        _ => Err(format!("'{word}' is neither session nor drill\n{USAGE}")),
+    }
+}
+
+fn number(word: &str) -> Result<u64, String> {
+    word.parse().map_err(|_| format!("'{word}' is no number\n{USAGE}"))
+}
+
+fn save(path: &Path, bytes: &[u8]) -> Result<(), String> {
+    std::fs::write(path, bytes).map_err(|error| format!("{}: {error}", path.display()))
+}
+
+/// A reader that stops early, as head does, is no failure.
+fn print(bytes: &[u8]) -> Result<(), String> {
+    match std::io::stdout().write_all(bytes) {
+        Err(error) if error.kind() != std::io::ErrorKind::BrokenPipe => Err(error.to_string()),
+        _ => Ok(()),
+    }
 }
