@@ -58,7 +58,7 @@ pub struct Plan<'a> {
 /// True where every script agreed. Named scripts come first, then random ones from the seed on.
 pub fn compare(plan: &Plan) -> Result<bool, String> {
     let Plan { kind, program, .. } = *plan;
-    let named: Vec<_> = named::all().into_iter().filter(|one| one.kind == kind).collect();
+    let named: Vec<_> = named::all().into_iter().filter(|one| one.kind == kind && !one.slow).collect();
     for one in &named {
         if port(program, &one.bytes)? != script::run(kind, &one.bytes, ORIGINAL) {
             println!("{}: named script '{}' differs", kind.name(), one.name);
@@ -85,7 +85,7 @@ pub fn compare(plan: &Plan) -> Result<bool, String> {
                             break;
                         }
                         let one = generate::script(kind, plan.seed + index);
-                        mine.add(&one.features);
+                        mine.add(&one);
                         match port(program, &one.bytes) {
                             Ok(lines) if lines == one.lines => {}
                             Ok(_) => {

@@ -5,6 +5,7 @@ use crate::command;
 use crate::engine::{Fields, ORIGINAL, Outcome, View};
 use crate::random::Random;
 use crate::script::{Kind, Run};
+use std::collections::BTreeSet;
 
 const CLOCK_END: u64 = 1 << 60;
 /// Scripts stop growing here, far below what a program reads.
@@ -27,6 +28,12 @@ enum Profile {
     Closing,
     /// Spans that come near 2^60.
     Ages,
+    /// Whole rounds: bytes over, acks back, samples.
+    Rounds,
+    /// Stores filled past a gap, which is closed later.
+    Gaps,
+    /// A stream that times out with its queue of state packets full.
+    Brim,
     /// Anything in any order.
     Chaos,
     /// SACK blocks take packets out of a stream that is about to time out (drill).
@@ -39,28 +46,24 @@ enum Profile {
     Borders,
 }
 
-const SESSION: [Profile; 7] = [
+/// Those that a session can follow stand first.
+const PROFILES: [Profile; 14] = [
     Profile::Traffic,
     Profile::Silence,
     Profile::Flood,
     Profile::Fill,
     Profile::Closing,
     Profile::Ages,
-    Profile::Chaos,
-];
-const DRILL: [Profile; 11] = [
-    Profile::Traffic,
-    Profile::Silence,
-    Profile::Flood,
-    Profile::Fill,
-    Profile::Closing,
-    Profile::Ages,
+    Profile::Rounds,
+    Profile::Gaps,
+    Profile::Brim,
     Profile::Chaos,
     Profile::Sacked,
     Profile::LastNumbers,
     Profile::Noise,
     Profile::Borders,
 ];
+const SESSION: usize = 10;
 
 /// A command's name, its outcome, and the state that it left its end in, coarsely.
 pub type Feature = (&'static str, Outcome, u64);
@@ -70,6 +73,8 @@ pub struct Script {
     pub bytes: Vec<u8>,
     pub lines: Vec<u8>,
     pub features: Vec<Feature>,
+    /// The deep states that it came through.
+    pub reached: BTreeSet<&'static str>,
 }
 
 /// The script of a seed.
@@ -77,14 +82,19 @@ pub fn script(kind: Kind, seed: u64) -> Script {
     let mut random = Random::new(seed ^ ((kind as u64 + 1) << 56));
     random.next();
     let profile = match kind {
-        Kind::Session => random.pick(&SESSION),
-        Kind::Drill => random.pick(&DRILL),
+        Kind::Session => random.pick(&PROFILES[..SESSION]),
+        Kind::Drill => random.pick(&PROFILES),
     };
     let commands = match random.below(10) {
         0 => random.between(3, 12),
         1..=4 => random.between(10, 60),
         5..=7 => random.between(40, 160),
         _ => random.between(150, 400),
+    };
+    let commands = match profile {
+        // Full stores and queues take a hundred commands.
+        Profile::Gaps | Profile::Brim => commands.max(150),
+        _ => commands,
     };
     let mut writer = Writer::new(kind, profile, random, commands as usize);
     writer.start();
@@ -102,6 +112,7 @@ struct Writer {
     bytes: Vec<u8>,
     lines: Vec<u8>,
     features: Vec<Feature>,
+    reached: BTreeSet<&'static str>,
     commands: usize,
     most: usize,
     /// The size of the steps of the clock, as a power of two.
@@ -128,6 +139,7 @@ impl Writer {
             bytes: Vec::new(),
             lines: Vec::new(),
             features: Vec::new(),
+            reached: BTreeSet::new(),
             commands: 0,
             most,
             pace,
@@ -155,7 +167,12 @@ impl Writer {
             0x16 | 0x17 => 0,
             _ => command[1] as usize,
         };
-        self.features.push((step.command, step.outcome, coarse(&self.run.ends[end].view())));
+        let view = self.view(end);
+        self.features.push((step.command, step.outcome, coarse(&view)));
+        self.reached.extend(reached(&view));
+        if matches!(step.command, "take" | "room") && step.outcome == Outcome::Ok && step.count == 0 {
+            self.reached.insert("an empty batch");
+        }
         self.bytes.extend(command);
         self.lines.extend(step.line.into_bytes());
         self.commands += 1;
@@ -235,14 +252,15 @@ impl Writer {
 
     fn read_length(&mut self, view: &View) -> usize {
         let head = view.held.first().map_or(1, |(_, length, offset)| (length - offset) as u64);
-        let length = match self.random.below(10) {
+        let length = match self.random.below(12) {
             0 => 0,
             1 => self.random.between(1, 9),
             2 => head.saturating_sub(1),
-            3 => head,
-            4 => head + 1,
-            5 => 1_380,
-            6 if !self.short => 4_096,
+            3 | 4 => head,
+            5 => head + 1,
+            6 => head + self.random.between(1, 70),
+            7 => 1_380,
+            8 if !self.short => 4_096,
             _ => self.random.between(1, 64),
         };
         length.min(4_096) as usize
@@ -412,7 +430,11 @@ impl Writer {
         }
         let view = self.view(end);
         let n = &view.numbers;
-        let typ = self.random.pick(&[0, 0, 1, 1, 1, 1, 2, 3, 4, 4, 4, 5, 5, 6, 7, 8, 16, 255]);
+        let typ = if self.random.one_in(12) {
+            self.random.pick(&[2, 3, 6, 7, 255])
+        } else {
+            self.random.pick(&[0, 0, 1, 1, 1, 1, 4, 4, 4, 5, 5, 8, 16, 253])
+        };
         let payload = if typ & 4 != 0 && !self.random.one_in(5) {
             let blocks = self.sack_blocks(&view);
             let after = self.random.pick(&[0, 1, 1, 1, 1, 1, 2, 7]);
@@ -649,6 +671,13 @@ impl Writer {
 
     fn next(&mut self) {
         let end = self.end();
+        // Little is left to see once an end has answered done.
+        let ended = self.view(end).numbers.ended == 1;
+        if ended && self.random.one_in(5) {
+            self.most = self.commands;
+        } else if ended && self.kind == Kind::Drill && self.random.one_in(4) {
+            self.open(end);
+        }
         if self.random.one_in(12) {
             return self.any(end);
         }
@@ -667,6 +696,9 @@ impl Writer {
                 0 => self.silence(end),
                 _ => self.traffic(end),
             },
+            Profile::Rounds => self.round(end),
+            Profile::Gaps => self.gap(end),
+            Profile::Brim => self.brim(0),
             Profile::Chaos => self.any(end),
             Profile::Sacked => self.sacked(0),
             Profile::LastNumbers => match self.random.below(3) {
@@ -709,15 +741,77 @@ impl Writer {
     }
 
     fn traffic(&mut self, end: usize) {
-        match self.random.weighted(&[5, 6, 4, 1]) {
+        match self.random.weighted(&[5, 6, 4, 1, 3]) {
             0 => self.write_some(end),
             1 => self.exchange(end),
             2 => self.read_all(end),
-            _ => {
+            3 => {
                 let clock = self.due_clock(end);
                 self.drive(end, clock);
             }
+            _ => self.round(end),
         }
+    }
+
+    /// Bytes over, acks back, and the drive that settles them.
+    fn round(&mut self, end: usize) {
+        self.write_some(end);
+        self.exchange(end);
+        self.read_all(1 - end);
+        self.exchange(1 - end);
+        let clock = if self.random.one_in(4) { self.due_clock(end) } else { self.clock(end) };
+        self.drive(end, clock);
+    }
+
+    /// All slots filled with short packets, one or two of which arrive last.
+    fn gap(&mut self, end: usize) {
+        let length = self.random.between(1, 66) as usize;
+        for fill in 0..self.random.pick(&[3, 31, 32, 33, 33]) {
+            if self.put(command::write(end, length, fill)) != Outcome::Ok {
+                break;
+            }
+        }
+        let clock = self.clock(end);
+        self.drive(end, clock);
+        let kept = self.run.kept[end].len() as u64;
+        let late = [self.random.below(3), self.random.below(kept.max(1))];
+        for number in 0..kept {
+            if !late.contains(&number) {
+                let clock = self.clock(1 - end);
+                self.put(command::hand(1 - end, number as usize, clock));
+            }
+        }
+        if self.random.one_in(2) {
+            self.read_all(1 - end);
+        }
+        if self.random.one_in(2) {
+            self.exchange(1 - end);
+        }
+        for number in late.into_iter().filter(|number| *number < kept) {
+            let clock = self.clock(1 - end);
+            self.put(command::hand(1 - end, number as usize, clock));
+        }
+        self.read_all(1 - end);
+        self.exchange(1 - end);
+        let clock = self.due_clock(end);
+        self.drive(end, clock);
+    }
+
+    /// Due drives until the next one fails, state packets up to 62 or 63, then that drive.
+    fn brim(&mut self, end: usize) {
+        self.write_some(end);
+        for _ in 0..6 {
+            if self.view(end).stored.iter().any(|packet| packet.transmits > 5) {
+                break;
+            }
+            let clock = self.view(end).numbers.deadline.min(CLOCK_END - 1);
+            self.drive(end, clock);
+        }
+        self.pace = self.random.pick(&[0, 4]);
+        self.flood(end);
+        let clock = self.view(end).numbers.deadline.min(CLOCK_END - 1);
+        self.drive(end, clock);
+        self.traffic(end);
     }
 
     /// Due drives in a row: transmits 1, 3, 5, 7, then TimedOut, and on.
@@ -839,7 +933,7 @@ impl Writer {
             self.bytes.extend(bad);
             self.lines.extend(format!("script {at}\n").into_bytes());
         }
-        Script { kind: self.kind, bytes: self.bytes, lines: self.lines, features: self.features }
+        Script { kind: self.kind, bytes: self.bytes, lines: self.lines, features: self.features, reached: self.reached }
     }
 
     fn bad_command(&mut self) -> Vec<u8> {
@@ -930,4 +1024,33 @@ fn coarse(view: &View) -> u64 {
         ((n.largest_ack > n.remote_acked) as u64, 2),
     ];
     parts.iter().fold(0, |all, (part, size)| all * size + part)
+}
+
+/// States that scripts come through seldom, and have to.
+fn reached(view: &View) -> Vec<&'static str> {
+    let n = &view.numbers;
+    let waiting = view.stored.iter().filter(|packet| packet.waiting).count();
+    let some_sacked = view.stored.first().is_some_and(|first| first.number as u64 > n.remote_acked);
+    let states = [
+        ("TimedOut", n.error == 3),
+        ("TimedOut, other packets waiting", n.error == 3 && waiting > 0),
+        ("TimedOut, packets sacked", n.error == 3 && some_sacked),
+        ("transmits 7", view.stored.iter().any(|packet| packet.transmits == 7)),
+        ("32 stored", view.stored.len() == 32),
+        ("32 held", view.held.len() == 32),
+        ("31 held past a gap", view.held.iter().filter(|(number, _, _)| *number as u64 > n.ack).count() >= 31),
+        ("window 65,535 or more", n.window >= 65_535),
+        ("window 4,294,967,295", n.window == u32::MAX as u64),
+        ("a sample", n.srtt > 0),
+        ("rto above 1,000 ms", n.rto > 1_000_000_000),
+        ("rto above 2^60", n.rto > CLOCK_END),
+        ("62 state packets", view.states == 62),
+        ("63 state packets", view.states == 63),
+        ("64 state packets", view.states >= 64),
+        ("ended", n.ended == 1),
+        ("seq 4,294,967,295", n.seq == u32::MAX as u64),
+        ("ack 4,294,967,295", n.ack == u32::MAX as u64),
+        ("a read offset", view.held.iter().any(|(_, _, offset)| *offset > 0)),
+    ];
+    states.into_iter().filter(|(_, is)| *is).map(|(name, _)| name).collect()
 }

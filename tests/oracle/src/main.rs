@@ -72,7 +72,7 @@ fn command(words: &[&str]) -> Result<bool, String> {
             let (kind, seed, count) = (kind_of(kind)?, number(seed)?, number(count)?);
             let mut table = Table::default();
             for seed in seed..seed + count {
-                table.add(&generate::script(kind, seed).features);
+                table.add(&generate::script(kind, seed));
             }
             print(table.to_string().as_bytes())?;
             Ok(true)

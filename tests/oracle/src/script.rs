@@ -66,6 +66,8 @@ pub struct Step {
     pub length: usize,
     pub command: &'static str,
     pub outcome: Outcome,
+    /// Bytes taken, where the command takes.
+    pub count: usize,
 }
 
 /// Two ends, and the datagrams last taken from each.
@@ -74,6 +76,7 @@ pub struct Run {
     engine: Engine,
     pub ends: [Box<dyn End>; 2],
     pub kept: [VecDeque<Vec<u8>>; 2],
+    count: usize,
 }
 
 /// A command's operands, read from its first byte on. A short one reads as none.
@@ -154,19 +157,20 @@ fn sum(bytes: &[u8]) -> u64 {
 impl Run {
     pub fn new(kind: Kind, engine: Engine) -> Self {
         let open = |local, remote| (engine.open)(local, remote, 10, 0).ok().unwrap();
-        Self { kind, engine, ends: [open(1, 2), open(2, 1)], kept: Default::default() }
+        Self { kind, engine, ends: [open(1, 2), open(2, 1)], kept: Default::default(), count: 0 }
     }
 
     /// Runs the command that stands first, none where it ends the run.
     pub fn step(&mut self, script: &[u8]) -> Option<Step> {
         let mut ops = Operands::new(self.kind, script);
         let command = ops.byte()?;
+        self.count = 0;
         let (name, outcome, line) = match command {
             0x01..=0x06 => self.session(command, &mut ops)?,
             0x10..=0x18 if self.kind == Kind::Drill => self.drill(command, &mut ops)?,
             _ => return None,
         };
-        Some(Step { line, length: ops.at, command: name, outcome })
+        Some(Step { line, length: ops.at, command: name, outcome, count: self.count })
     }
 
     fn session(&mut self, command: u8, ops: &mut Operands) -> Option<(&'static str, Outcome, String)> {
@@ -216,7 +220,8 @@ impl Run {
             }
             self.kept[end].push_back(datagram.to_vec());
         }
-        (taken.outcome, taken.bytes.len(), taken.segment, sum(&taken.bytes))
+        self.count = taken.bytes.len();
+        (taken.outcome, self.count, taken.segment, sum(&taken.bytes))
     }
 
     fn drill(&mut self, command: u8, ops: &mut Operands) -> Option<(&'static str, Outcome, String)> {
