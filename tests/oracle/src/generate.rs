@@ -119,6 +119,8 @@ struct Writer {
     pace: u64,
     /// Out of 100 datagrams, how many are lost.
     loss: u64,
+    /// Nothing is acked to the ends, so that their packets time out.
+    deaf: bool,
     /// Payloads are short in most scripts, so that their lines are.
     short: bool,
 }
@@ -144,6 +146,7 @@ impl Writer {
             most,
             pace,
             loss,
+            deaf: profile == Profile::Brim,
             short,
         }
     }
@@ -195,6 +198,8 @@ impl Writer {
         match self.random.below(6) {
             0 => 0,
             1 => self.random.below(3),
+            // To the end of all clocks; `clock` stops there.
+            2 if self.profile == Profile::Ages && self.random.one_in(8) => CLOCK_END,
             _ => self.random.sized(bits),
         }
     }
@@ -372,7 +377,7 @@ impl Writer {
         let view = self.view(end);
         let n = &view.numbers;
         let seq = n.ack + self.random.below(4);
-        let ack = self.random.between(n.remote_acked, n.seq);
+        let ack = if self.deaf { n.remote_acked } else { self.random.between(n.remote_acked, n.seq) };
         let length = self.random.below(24) as usize;
         let payload: Vec<u8> = (0..length).map(|_| self.random.next() as u8).collect();
         let fields = Fields {

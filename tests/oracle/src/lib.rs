@@ -34,3 +34,13 @@ pub mod named;
 pub mod random;
 pub mod script;
 pub mod table;
+
+/// Wrong versions of the original, see mutations.rs.
+#[cfg(feature = "mutants")]
+#[allow(warnings)]
+pub mod mutants {
+    include!(concat!(env!("OUT_DIR"), "/mutants.rs"));
+}
+#[cfg(feature = "mutants")]
+pub mod hunt;
+pub mod mutations;

@@ -16,6 +16,8 @@ usage: oracle run KIND                               runs the script on standard
                                                      holds PROGRAM to the original on named and random scripts
        oracle table KIND SEED COUNT                  counts what each command answers in random scripts
        oracle named                                  prints the scripts written by hand and their lines
+       oracle record FOLDER                          writes FOLDER/scripts.bin: scripts and their lines, for replay
+       oracle mutants SEED COUNT                     tells how soon wrong versions are noticed (feature mutants)
 KIND is session or drill. Status 0: all agree; 1: a difference; 2: bad usage or a file that cannot be had.
 ";
 
@@ -85,9 +87,20 @@ fn command(words: &[&str]) -> Result<bool, String> {
             }
             Ok(true)
         }
+        ["mutants", seed, count] => mutants(number(seed)?, number(count)?),
         [] => Err(USAGE.into()),
         [other, ..] => Err(format!("'{other}' is no command, or its words are not understood\n{USAGE}")),
     }
+}
+
+#[cfg(feature = "mutants")]
+fn mutants(seed: u64, count: u64) -> Result<bool, String> {
+    Ok(oracle::hunt::hunt(seed, count))
+}
+
+#[cfg(not(feature = "mutants"))]
+fn mutants(_seed: u64, _count: u64) -> Result<bool, String> {
+    Err("built without the mutants: cargo build --release --features mutants".into())
 }
 
 fn kind_of(word: &str) -> Result<Kind, String> {

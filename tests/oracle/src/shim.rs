@@ -209,7 +209,7 @@ pub trait FutureExt: Future + Sized {
 }
 impl<F: Future + Sized> FutureExt for F {}
 
-/// parking_lot::Mutex: std's, which cannot be poisoned here.
+/// parking_lot::Mutex: std's, without its poisoning.
 #[derive(Debug)]
 pub struct Mutex<T>(std::sync::Mutex<T>);
 pub type MutexGuard<'a, T> = std::sync::MutexGuard<'a, T>;
@@ -219,7 +219,7 @@ impl<T> Mutex<T> {
         Self(std::sync::Mutex::new(value))
     }
     pub fn lock(&self) -> MutexGuard<'_, T> {
-        self.0.lock().unwrap()
+        self.0.lock().unwrap_or_else(std::sync::PoisonError::into_inner)
     }
 }
 
