@@ -137,6 +137,21 @@ pub fn compare(plan: &Plan) -> Result<bool, String> {
     }
 }
 
+/// True where the program prints every recorded line.
+pub fn replay(list: &[(Kind, Vec<u8>, Vec<u8>)], kind: Kind, program: &Path) -> Result<bool, String> {
+    let mut count = 0;
+    for (_, bytes, lines) in list.iter().filter(|(of, _, _)| *of == kind) {
+        if port(program, bytes)? != *lines {
+            println!("{}: recorded script {count} differs", kind.name());
+            report(kind, program, bytes)?;
+            return Ok(false);
+        }
+        count += 1;
+    }
+    println!("{}: {count} recorded scripts agree", kind.name());
+    Ok(true)
+}
+
 /// Shortens a script that differs and prints it, command by command, up to the first line that differs.
 fn report(kind: Kind, program: &Path, bytes: &[u8]) -> Result<(), String> {
     let bytes = shrink(kind, bytes, &mut |bytes| Ok(port(program, bytes)? != script::run(kind, bytes, ORIGINAL)))?;

@@ -1,7 +1,7 @@
 //! What a script asks of an end, whichever version of the original stands behind it.
 
 /// What a call answers. `Refused` has 01's number.
-#[derive(Debug, Clone, Copy, PartialEq, Eq)]
+#[derive(Debug, Clone, Copy, PartialEq, Eq, Hash)]
 pub enum Outcome {
     Ok,
     Wait,

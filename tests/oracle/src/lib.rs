@@ -32,6 +32,7 @@ pub mod engine;
 pub mod generate;
 pub mod named;
 pub mod random;
+pub mod record;
 pub mod script;
 pub mod table;
 

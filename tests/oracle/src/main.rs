@@ -4,7 +4,7 @@ use oracle::compare::{self, Plan};
 use oracle::engine::ORIGINAL;
 use oracle::script::{self, Kind};
 use oracle::table::Table;
-use oracle::{generate, named};
+use oracle::{generate, named, record};
 use std::io::{Read, Write};
 use std::path::Path;
 use std::process::ExitCode;
@@ -17,6 +17,7 @@ usage: oracle run KIND                               runs the script on standard
        oracle table KIND SEED COUNT                  counts what each command answers in random scripts
        oracle named                                  prints the scripts written by hand and their lines
        oracle record FOLDER                          writes FOLDER/scripts.bin: scripts and their lines, for replay
+       oracle replay FILE KIND --port PROGRAM        holds PROGRAM to the recorded scripts of that kind
        oracle mutants SEED COUNT                     tells how soon wrong versions are noticed (feature mutants)
 KIND is session or drill. Status 0: all agree; 1: a difference; 2: bad usage or a file that cannot be had.
 ";
@@ -82,10 +83,25 @@ fn command(words: &[&str]) -> Result<bool, String> {
         ["named"] => {
             for one in named::all() {
                 let hex: String = one.bytes.iter().map(|byte| format!("{byte:02x}")).collect();
-                let lines = script::run(one.kind, &one.bytes, ORIGINAL);
+                let lines = match one.slow {
+                    true => b"(takes a minute: run it by itself)\n".to_vec(),
+                    false => script::run(one.kind, &one.bytes, ORIGINAL),
+                };
                 print(format!("# {} ({})\n{hex}\n{}\n", one.name, one.kind.name(), String::from_utf8_lossy(&lines)).as_bytes())?;
             }
             Ok(true)
+        }
+        ["record", folder] => {
+            if !Path::new(folder).is_dir() {
+                return Err(format!("{folder}: no such folder"));
+            }
+            save(&Path::new(folder).join("scripts.bin"), &record::file())?;
+            Ok(true)
+        }
+        ["replay", file, kind, "--port", program] => {
+            let bytes = std::fs::read(file).map_err(|error| format!("{file}: {error}"))?;
+            let list = record::parse(&bytes).ok_or(format!("{file}: not a file of recorded scripts"))?;
+            compare::replay(&list, kind_of(kind)?, Path::new(program))
         }
         ["mutants", seed, count] => mutants(number(seed)?, number(count)?),
         [] => Err(USAGE.into()),

@@ -2,6 +2,7 @@
 //! Used by build.rs, which applies them, and by `oracle mutants`, which tells how soon each is noticed.
 
 pub struct Mutation {
+    #[allow(dead_code)]
     pub name: &'static str,
     pub file: &'static str,
     /// Stands in the file exactly once.

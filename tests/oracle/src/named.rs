@@ -109,10 +109,15 @@ fn sessions(list: &mut List) {
         "pieces of 1,380 bytes up to the window, then waiting",
         vec![write(0, 1_380, 1), write(0, 1_381, 2), write(0, 20, 3), write(0, 0, 4), driven(0, 0, 3)],
     );
-    // Edge of 01 (inflight 2,799, window 2,800) as near as writes come: one byte goes where payload alone fits.
+    // Edge: at inflight 2,799, window 2,800, one byte goes.
     list.session(
         "the last byte of the window",
-        vec![write(0, 1_380, 1), write(0, 1_359, 2), write(0, 2, 3), write(0, 1, 4), write(0, 1, 5), driven(0, 0, 4)],
+        vec![write(0, 1_380, 1), write(0, 1_379, 2), write(0, 2, 3), write(0, 1, 4), write(0, 1, 5), driven(0, 0, 4)],
+    );
+    // Half the window holds the first; the second is too long for what is left, and the third does not overtake it.
+    list.session(
+        "waiting packets are queued up to the first that does not fit",
+        vec![write(0, 700, 1), write(0, 1_000, 2), write(0, 10, 3), driven(0, 0, 4), driven(0, SECOND, 4), driven(0, 3 * SECOND, 4)],
     );
     list.session("32 stored packets, then waiting", [times(33, write(0, 1, 7)), vec![driven(0, 0, 5), write(0, 1, 8)]].concat());
     list.session(
@@ -336,6 +341,9 @@ fn sessions(list: &mut List) {
 
 fn drills(list: &mut List) {
     list.drill("a fresh stream", vec![look(0), look(1), room(0, 14_000)]);
+    list.drill("a deadline that passes with nothing sent", vec![driven(0, 5 * SECOND, 1)]);
+    list.drill("a script of 65,536 bytes", vec![raw(0, 0, &vec![255; 65_536 - 12 - 4])]);
+    list.stop("a raw delivery that crosses byte 65,536", vec![look(0), raw(0, 0, &vec![255; 65_536 - 12 - 1])]);
     // Edge: SACK payloads of 8, 9, 16, 17 bytes hold 0, 1, 1, 2 blocks.
     for (length, count) in [(8, 0), (9, 1), (16, 1), (17, 2)] {
         let mut payload = blocks(&[(0, 1), (2, 3), (0, 0)], 0);
