@@ -365,6 +365,12 @@ impl Writer {
                 }
             }
         }
+        if self.kind == Kind::Drill {
+            for call in [4, 6] {
+                let clock = self.clock(end);
+                self.put(command::spoil(end, 0, call, clock));
+            }
+        }
         for _ in 0..self.random.between(1, 4) {
             self.any_session(end);
         }

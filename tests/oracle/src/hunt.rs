@@ -1,36 +1,49 @@
 //! How soon a wrong version is noticed.
 
 use crate::engine::{Engine, ORIGINAL};
-use crate::generate::{self, Script};
+use crate::generate;
+use crate::record::Recorded;
 use crate::script::{self, Kind};
 use crate::{mutants, mutations, named};
 use std::panic::{AssertUnwindSafe, catch_unwind};
 
 /// A panic of the wrong version is noticed too.
-fn differs(kind: Kind, bytes: &[u8], lines: &[u8], engine: Engine) -> bool {
-    catch_unwind(AssertUnwindSafe(|| script::run(kind, bytes, engine))).map_or(true, |ours| ours != lines)
+fn differs((kind, bytes, lines): &Recorded, engine: Engine) -> bool {
+    catch_unwind(AssertUnwindSafe(|| script::run(*kind, bytes, engine))).map_or(true, |ours| ours != *lines)
 }
 
-/// Prints for each mutation the number of random scripts that it took, from the seed on, and of named scripts that notice it.
-/// True where each one was noticed by some script.
-pub fn hunt(seed: u64, count: u64) -> bool {
+/// Prints for each mutation how many random scripts it took, from the seed on, and how many named and recorded ones notice it.
+/// True where each one was noticed by some random script.
+pub fn hunt(seed: u64, count: u64, recorded: &[Recorded]) -> bool {
     std::panic::set_hook(Box::new(|_| {}));
-    let batch = |kind| -> Vec<Script> { (seed..seed + count).map(|seed| generate::script(kind, seed)).collect() };
-    let scripts = [(Kind::Session, batch(Kind::Session)), (Kind::Drill, batch(Kind::Drill))];
-    let hand: Vec<_> = named::all()
+    let batch = |kind| -> Vec<Recorded> {
+        (seed..seed + count).map(|seed| generate::script(kind, seed)).map(|one| (kind, one.bytes, one.lines)).collect()
+    };
+    let random = [batch(Kind::Session), batch(Kind::Drill)];
+    let named: Vec<Recorded> = named::all()
         .into_iter()
         .filter(|one| !one.slow && one.bytes.len() < 30_000)
         .map(|one| (one.kind, script::run(one.kind, &one.bytes, ORIGINAL), one.bytes))
+        .map(|(kind, lines, bytes)| (kind, bytes, lines))
         .collect();
+    println!("random: how many scripts it took, of {count} of each kind; named, recorded: how many differ, of {} and {}", named.len(), recorded.len());
+    println!("{:48}{:>9}{:>9}{:>9}{:>10}", "", "session", "drill", "named", "recorded");
     let mut all = true;
-    println!("{:48}{:>9}{:>9}{:>9}   random scripts up to the first that differs, of {count}; named ones that differ", "mutation", "session", "drill", "named");
     for (mutation, engine) in mutations::ALL.iter().zip(mutants::ENGINES) {
-        let first = |kind: Kind, list: &[Script]| list.iter().position(|one| differs(kind, &one.bytes, &one.lines, *engine));
-        let found: Vec<Option<usize>> = scripts.iter().map(|(kind, list)| first(*kind, list)).collect();
-        let by_hand = hand.iter().filter(|(kind, lines, bytes)| differs(*kind, bytes, lines, *engine)).count();
-        let word = |found: &Option<usize>| found.map_or("-".into(), |index| (index + 1).to_string());
-        println!("{:48}{:>9}{:>9}{by_hand:>9}", mutation.name, word(&found[0]), word(&found[1]));
+        let first = |list: &Vec<Recorded>| list.iter().position(|one| differs(one, *engine));
+        let found = random.each_ref().map(first);
+        let differing = |list: &[Recorded]| list.iter().filter(|one| differs(one, *engine)).count();
+        let word = |found: Option<usize>| found.map_or("-".into(), |index| (index + 1).to_string());
+        println!(
+            "{:48}{:>9}{:>9}{:>9}{:>10}",
+            mutation.name,
+            word(found[0]),
+            word(found[1]),
+            differing(&named),
+            differing(recorded)
+        );
         all &= found.iter().any(Option::is_some);
     }
+    println!("{} mutations, {}", mutations::ALL.len(), if all { "each noticed" } else { "NOT each noticed" });
     all
 }

@@ -1,10 +1,11 @@
 //! `oracle`: see README.md.
 
 use oracle::compare::{self, Plan};
-use oracle::engine::ORIGINAL;
+use oracle::engine::{Engine, ORIGINAL};
+use oracle::record::{self, Recorded};
 use oracle::script::{self, Kind};
 use oracle::table::Table;
-use oracle::{generate, named, record};
+use oracle::{generate, named};
 use std::io::{Read, Write};
 use std::path::Path;
 use std::process::ExitCode;
@@ -18,7 +19,9 @@ usage: oracle run KIND                               runs the script on standard
        oracle named                                  prints the scripts written by hand and their lines
        oracle record FOLDER                          writes FOLDER/scripts.bin: scripts and their lines, for replay
        oracle replay FILE KIND --port PROGRAM        holds PROGRAM to the recorded scripts of that kind
-       oracle mutants SEED COUNT                     tells how soon wrong versions are noticed (feature mutants)
+       oracle mutants SEED COUNT [FILE]              tells how soon wrong versions are noticed, and whether by the
+                                                     recorded scripts of FILE (built with the feature mutants)
+       oracle mutant NUMBER KIND                     runs the script on standard input on a wrong version, from 0 on
 KIND is session or drill. Status 0: all agree; 1: a difference; 2: bad usage or a file that cannot be had.
 ";
 
@@ -38,9 +41,7 @@ fn main() -> ExitCode {
 fn command(words: &[&str]) -> Result<bool, String> {
     match words {
         ["run", kind] => {
-            let mut bytes = Vec::new();
-            std::io::stdin().take(script::MAX_SCRIPT as u64).read_to_end(&mut bytes).map_err(|e| e.to_string())?;
-            print(&script::run(kind_of(kind)?, &bytes, ORIGINAL))?;
+            print(&script::run(kind_of(kind)?, &input()?, ORIGINAL))?;
             Ok(true)
         }
         ["generate", kind, seed, count, folder] => {
@@ -99,24 +100,52 @@ fn command(words: &[&str]) -> Result<bool, String> {
             Ok(true)
         }
         ["replay", file, kind, "--port", program] => {
-            let bytes = std::fs::read(file).map_err(|error| format!("{file}: {error}"))?;
-            let list = record::parse(&bytes).ok_or(format!("{file}: not a file of recorded scripts"))?;
-            compare::replay(&list, kind_of(kind)?, Path::new(program))
+            compare::replay(&recorded(file)?, kind_of(kind)?, Path::new(program))
         }
-        ["mutants", seed, count] => mutants(number(seed)?, number(count)?),
+        ["mutants", seed, count] => mutants(number(seed)?, number(count)?, &[]),
+        ["mutants", seed, count, file] => mutants(number(seed)?, number(count)?, &recorded(file)?),
+        ["mutant", index, kind] => {
+            print(&script::run(kind_of(kind)?, &input()?, mutant(number(index)?)?))?;
+            Ok(true)
+        }
         [] => Err(USAGE.into()),
         [other, ..] => Err(format!("'{other}' is no command, or its words are not understood\n{USAGE}")),
     }
 }
 
 #[cfg(feature = "mutants")]
-fn mutants(seed: u64, count: u64) -> Result<bool, String> {
-    Ok(oracle::hunt::hunt(seed, count))
+fn mutants(seed: u64, count: u64, recorded: &[Recorded]) -> Result<bool, String> {
+    Ok(oracle::hunt::hunt(seed, count, recorded))
+}
+
+#[cfg(feature = "mutants")]
+fn mutant(index: u64) -> Result<Engine, String> {
+    oracle::mutants::ENGINES.get(index as usize).copied().ok_or(format!("no mutation {index}"))
 }
 
 #[cfg(not(feature = "mutants"))]
-fn mutants(_seed: u64, _count: u64) -> Result<bool, String> {
-    Err("built without the mutants: cargo build --release --features mutants".into())
+const WITHOUT: &str = "built without the wrong versions: cargo build --features mutants";
+
+#[cfg(not(feature = "mutants"))]
+fn mutants(_: u64, _: u64, _: &[Recorded]) -> Result<bool, String> {
+    Err(WITHOUT.into())
+}
+
+#[cfg(not(feature = "mutants"))]
+fn mutant(_: u64) -> Result<Engine, String> {
+    Err(WITHOUT.into())
+}
+
+/// As much of standard input as a program reads.
+fn input() -> Result<Vec<u8>, String> {
+    let mut bytes = Vec::new();
+    std::io::stdin().take(script::MAX_SCRIPT as u64).read_to_end(&mut bytes).map_err(|error| error.to_string())?;
+    Ok(bytes)
+}
+
+fn recorded(file: &str) -> Result<Vec<Recorded>, String> {
+    let bytes = std::fs::read(file).map_err(|error| format!("{file}: {error}"))?;
+    record::parse(&bytes).ok_or(format!("{file}: not a file of recorded scripts"))
 }
 
 fn kind_of(word: &str) -> Result<Kind, String> {

@@ -93,8 +93,11 @@ fn choose(kind: Kind, budget: usize) -> (Vec<Record>, usize, usize) {
     (chosen, seen.len(), all.len())
 }
 
-/// The scripts of a file, with their lines.
-pub fn parse(file: &[u8]) -> Option<Vec<(Kind, Vec<u8>, Vec<u8>)>> {
+/// A script and its lines.
+pub type Recorded = (Kind, Vec<u8>, Vec<u8>);
+
+/// The scripts of a file.
+pub fn parse(file: &[u8]) -> Option<Vec<Recorded>> {
     let mut list = Vec::new();
     let mut rest = file;
     while !rest.is_empty() {
