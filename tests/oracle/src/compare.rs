@@ -215,7 +215,7 @@ pub fn shrink(
             }
             let mut other = parts.clone();
             other[index][at] = 0;
-            if walks_far(&other[index]) {
+            if script::walks_far(&other[index]) {
                 continue;
             }
             tries += 1;
@@ -225,16 +225,4 @@ pub fn shrink(
         }
     }
     Ok(parts.concat())
-}
-
-/// A raw delivery whose SACK blocks name so many numbers that the original would take seconds.
-fn walks_far(command: &[u8]) -> bool {
-    const HEADER: usize = 12;
-    const PAYLOAD: usize = HEADER + 20;
-    if command[0] != 0x10 || command.len() < PAYLOAD || command[HEADER + 2] & 4 == 0 {
-        return false;
-    }
-    let word = |bytes: &[u8]| u32::from_le_bytes(bytes.try_into().unwrap());
-    let width = |block: &[u8]| word(&block[4..]).saturating_sub(word(&block[..4]));
-    command[PAYLOAD..].chunks_exact(8).any(|block| width(block) > 1 << 20)
 }

@@ -60,6 +60,18 @@ pub fn commands(kind: Kind, script: &[u8]) -> Vec<usize> {
     offsets
 }
 
+/// A raw delivery whose SACK blocks name so many numbers that the original, which walks over all of them, takes seconds.
+pub fn walks_far(command: &[u8]) -> bool {
+    const HEADER: usize = 12;
+    const PAYLOAD: usize = HEADER + 20;
+    if command[0] != 0x10 || command.len() < PAYLOAD || command[HEADER + 2] & 4 == 0 {
+        return false;
+    }
+    let word = |bytes: &[u8]| u32::from_le_bytes(bytes.try_into().unwrap());
+    let width = |block: &[u8]| word(&block[4..]).saturating_sub(word(&block[..4]));
+    command[PAYLOAD..].chunks_exact(8).any(|block| width(block) > 1 << 20)
+}
+
 /// What one command did.
 pub struct Step {
     pub line: String,
