@@ -27,7 +27,8 @@ fn main() {
         println!("cargo:rerun-if-changed=src/{file}.rs");
     }
     println!("cargo:rerun-if-changed=build.rs");
-    let mutants = if env::var("CARGO_FEATURE_MUTANTS").is_ok() { mutants(&source, &here.join("src"), &out) } else { String::new() };
+    let mutants =
+        if env::var("CARGO_FEATURE_MUTANTS").is_ok() { mutants(&source, &here.join("src"), &out) } else { String::new() };
     fs::write(out.join("mutants.rs"), mutants).unwrap();
 }
 
@@ -47,10 +48,7 @@ fn mutants(source: &Path, ours: &Path, out: &Path) -> String {
             code = code.replace("crate::", &format!("crate::mutants::m{index}::"));
             fs::write(folder.join(format!("{file}.rs")), code).unwrap();
         }
-        text += &format!(
-            "pub mod m{index} {{\npub use crate::{{engine, shim, udp}};\n{}}}\n",
-            modules(&folder, &folder)
-        );
+        text += &format!("pub mod m{index} {{\npub use crate::{{engine, shim, udp}};\n{}}}\n", modules(&folder, &folder));
         engines += &format!("m{index}::stream::end::ENGINE, ");
     }
     format!("{text}pub const ENGINES: &[crate::engine::Engine] = &[{engines}];\n")

@@ -22,12 +22,8 @@ const MAX_TRIES: usize = 4_000;
 pub fn port(program: &Path, bytes: &[u8]) -> Result<Vec<u8>, String> {
     let failed = |error: std::io::Error| format!("{}: {error}", program.display());
     let program = &program.canonicalize().map_err(failed)?;
-    let mut child = Command::new(program)
-        .stdin(Stdio::piped())
-        .stdout(Stdio::piped())
-        .stderr(Stdio::null())
-        .spawn()
-        .map_err(failed)?;
+    let mut child =
+        Command::new(program).stdin(Stdio::piped()).stdout(Stdio::piped()).stderr(Stdio::null()).spawn().map_err(failed)?;
     let mut stdin = child.stdin.take().unwrap();
     let mut lines = Vec::new();
     std::thread::scope(|scope| {
@@ -178,11 +174,7 @@ fn report(kind: Kind, program: &Path, bytes: &[u8]) -> Result<(), String> {
 }
 
 /// A shorter script that still differs: commands dropped, in ever smaller runs, then operands made 0.
-pub fn shrink(
-    kind: Kind,
-    bytes: &[u8],
-    differs: &mut dyn FnMut(&[u8]) -> Result<bool, String>,
-) -> Result<Vec<u8>, String> {
+pub fn shrink(kind: Kind, bytes: &[u8], differs: &mut dyn FnMut(&[u8]) -> Result<bool, String>) -> Result<Vec<u8>, String> {
     let offsets = script::commands(kind, bytes);
     let mut parts: Vec<Vec<u8>> = offsets.windows(2).map(|pair| bytes[pair[0]..pair[1]].to_vec()).collect();
     let mut tries = 0;

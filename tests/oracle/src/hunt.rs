@@ -31,7 +31,11 @@ pub fn hunt(seed: u64, count: u64, recorded: &[Recorded]) -> bool {
         .map(|(kind, lines, bytes)| (kind, bytes, lines))
         .filter(|one| !far(one))
         .collect();
-    println!("random: how many scripts it took, of {count} of each kind; named, recorded: how many differ, of {} and {}", named.len(), recorded.len());
+    println!(
+        "random: how many scripts it took, of {count} of each kind; named, recorded: how many differ, of {} and {}",
+        named.len(),
+        recorded.len()
+    );
     println!("{:48}{:>9}{:>9}{:>9}{:>10}", "", "session", "drill", "named", "recorded");
     let mut all = true;
     for (mutation, engine) in mutations::ALL.iter().zip(mutants::ENGINES) {

@@ -99,9 +99,7 @@ fn command(words: &[&str]) -> Result<bool, String> {
             save(&Path::new(folder).join("scripts.bin"), &record::file())?;
             Ok(true)
         }
-        ["replay", file, kind, "--port", program] => {
-            compare::replay(&recorded(file)?, kind_of(kind)?, Path::new(program))
-        }
+        ["replay", file, kind, "--port", program] => compare::replay(&recorded(file)?, kind_of(kind)?, Path::new(program)),
         ["mutants", seed, count] => mutants(number(seed)?, number(count)?, &[]),
         ["mutants", seed, count, file] => mutants(number(seed)?, number(count)?, &recorded(file)?),
         ["mutant", index, kind] => {

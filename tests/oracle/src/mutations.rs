@@ -54,9 +54,17 @@ pub const ALL: &[Mutation] = &[
         "Instant::now().checked_add(self.rto).unwrap()",
         "Instant::now().checked_add(2 * self.rto).unwrap()",
     ),
-    stream("a sample of a resent packet", "packet.transmits.load(Ordering::SeqCst) == 1", "packet.transmits.load(Ordering::SeqCst) >= 1"),
+    stream(
+        "a sample of a resent packet",
+        "packet.transmits.load(Ordering::SeqCst) == 1",
+        "packet.transmits.load(Ordering::SeqCst) >= 1",
+    ),
     stream("a first rttvar of a quarter", "self.rttvar = rtt / 2;", "self.rttvar = rtt / 4;"),
-    stream("rttvar with the new srtt", "let delta = self.srtt.abs_diff(rtt);", "let delta = ((7 * self.srtt + rtt) / 8).abs_diff(rtt);"),
+    stream(
+        "rttvar with the new srtt",
+        "let delta = self.srtt.abs_diff(rtt);",
+        "let delta = ((7 * self.srtt + rtt) / 8).abs_diff(rtt);",
+    ),
     stream("srtt rounded up", "(7 * self.srtt + rtt) / 8;", "(7 * self.srtt + rtt + Duration::from_nanos(7)) / 8;"),
     stream("rto of at least 999 ms", "self.rto = Duration::from_millis(1000)", "self.rto = Duration::from_millis(999)"),
     stream(
@@ -68,11 +76,19 @@ pub const ALL: &[Mutation] = &[
     stream("SACK reads the last block", "while i + 8 < buf.len()", "while i + 8 <= buf.len()"),
     stream("SACK blocks with their end", "for i in start..end {", "for i in start..end.saturating_add(1) {"),
     // Delivery
-    stream("data before END", "if packet.has_type(UDX_HEADER_END) {", "if packet.has_type(UDX_HEADER_END) && !packet.has_type(UDX_HEADER_DATA) {"),
+    stream(
+        "data before END",
+        "if packet.has_type(UDX_HEADER_END) {",
+        "if packet.has_type(UDX_HEADER_END) && !packet.has_type(UDX_HEADER_DATA) {",
+    ),
     stream("END leaves the remote side open", "self.state.close_remote();", ""),
     stream("data at ack is not stored", "if seq >= self.ack {", "if seq > self.ack {"),
     stream("the first of repeats is kept", "self.incoming.insert(seq, packet);", "self.incoming.entry(seq).or_insert(packet);"),
-    stream("received bytes without repeats", "self.stats.rx_bytes += packet.data_len();", "if packet.seq() >= self.ack { self.stats.rx_bytes += packet.data_len(); }"),
+    stream(
+        "received bytes without repeats",
+        "self.stats.rx_bytes += packet.data_len();",
+        "if packet.seq() >= self.ack { self.stats.rx_bytes += packet.data_len(); }",
+    ),
     stream("an old ack grows the window", "if header.ack > self.remote_acked {", "if header.ack >= self.remote_acked {"),
     stream("slow start at 65,535", "if self.cwnd < SSTHRESH {", "if self.cwnd <= SSTHRESH {"),
     stream("the window grows by two at least", ".max(1);", ".max(2);"),
@@ -81,15 +97,31 @@ pub const ALL: &[Mutation] = &[
     stream("a partial read keeps its place", "packet.read_offset = end;", "packet.read_offset = start;"),
     stream("a partial read is ready", "packet.read_offset = end;", "packet.read_offset = end; did_read = true;"),
     // Sending
-    stream("a piece leaves the window's last byte", "if self.inflight + len > self.cwnd {", "if self.inflight + len >= self.cwnd {"),
-    stream("a piece needs room for its header", "if self.inflight + len > self.cwnd {", "if self.inflight + len + 20 > self.cwnd {"),
+    stream(
+        "a piece leaves the window's last byte",
+        "if self.inflight + len > self.cwnd {",
+        "if self.inflight + len >= self.cwnd {",
+    ),
+    stream(
+        "a piece needs room for its header",
+        "if self.inflight + len > self.cwnd {",
+        "if self.inflight + len + 20 > self.cwnd {",
+    ),
     stream("state packets without END", "typ |= UDX_HEADER_END;", ""),
     stream("state packets are not counted", "self.wake_driver();\n        self.stats.tx_packets += 1;", "self.wake_driver();"),
     // Closing
-    stream("close keeps an earlier error", "self.error = Some(error.into());", "let error = error.into(); self.error.get_or_insert(error);"),
+    stream(
+        "close keeps an earlier error",
+        "self.error = Some(error.into());",
+        "let error = error.into(); self.error.get_or_insert(error);",
+    ),
     stream("done with packets stored", "&& self.outgoing.is_empty()", ""),
     // Headers
-    packet("seq and ack swapped", "buf[12..16].copy_from_slice(&self.seq.to_le_bytes());", "buf[12..16].copy_from_slice(&self.ack.to_le_bytes());"),
+    packet(
+        "seq and ack swapped",
+        "buf[12..16].copy_from_slice(&self.seq.to_le_bytes());",
+        "buf[12..16].copy_from_slice(&self.ack.to_le_bytes());",
+    ),
     packet("a header of 20 bytes refused", "buf.len() < UDX_HEADER_SIZE ||", "buf.len() <= UDX_HEADER_SIZE ||"),
     packet("the offset byte not written", "buf[3..4].copy_from_slice(&(self.data_offset as u8).to_le_bytes());", ""),
     // What stands in front of the original
@@ -97,11 +129,19 @@ pub const ALL: &[Mutation] = &[
     end("a close at 62 state packets refused", "CLOSE_STATES: usize = 63", "CLOSE_STATES: usize = 62"),
     end("data at read cursor + 32", "inner.read_cursor as u64 + STORE_SLOTS as u64", "inner.read_cursor as u64 + 33"),
     end("33 stored packets", "const STORE_SLOTS: u32 = 32;", "const STORE_SLOTS: u32 = 33;"),
-    end("the last ack instead of the largest", "self.largest_ack = self.largest_ack.max(packet.ack());", "self.largest_ack = packet.ack();"),
+    end(
+        "the last ack instead of the largest",
+        "self.largest_ack = self.largest_ack.max(packet.ack());",
+        "self.largest_ack = packet.ack();",
+    ),
     end("the same clock refused", "clock < self.last_clock", "clock <= self.last_clock && clock > 0"),
     end("a failed drive does not poll again", "while let Err(error) = inner.poll_drive", "if let Err(error) = inner.poll_drive"),
     end("no transmit at a take", "packet.transmits.fetch_add(1, Ordering::SeqCst);", ""),
-    end("time sent at a take, not at its drive", "shim::set_clock(self.drive_clock);", "shim::set_clock(self.drive_clock.saturating_sub(1));"),
+    end(
+        "time sent at a take, not at its drive",
+        "shim::set_clock(self.drive_clock);",
+        "shim::set_clock(self.drive_clock.saturating_sub(1));",
+    ),
     end("a done drive leaves the stream open", "self.ended = true;", ""),
     end("a window past 4,294,967,295", "inner.cwnd = inner.cwnd.min(WINDOW_MAX);", ""),
     end("seq reaches 4,294,967,295 and stops one early", "if inner.seq == LAST_NUMBER {", "if inner.seq >= LAST_NUMBER - 1 {"),

@@ -343,7 +343,11 @@ impl Run {
             5 => copy.read(&mut [0; 16]).0,
             6 => copy.close(),
             _ => {
-                if copy.look().is_empty() { Outcome::None } else { Outcome::Ok }
+                if copy.look().is_empty() {
+                    Outcome::None
+                } else {
+                    Outcome::Ok
+                }
             }
         }
     }

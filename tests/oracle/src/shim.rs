@@ -366,12 +366,7 @@ pub mod udp {
         pub fn poll_send(&self, _: &UdpState, _: &mut Context<'_>, _: &[Transmit]) -> Poll<io::Result<usize>> {
             Poll::Pending
         }
-        pub fn poll_recv(
-            &self,
-            _: &mut Context<'_>,
-            _: &mut [IoSliceMut<'_>],
-            _: &mut [RecvMeta],
-        ) -> Poll<io::Result<usize>> {
+        pub fn poll_recv(&self, _: &mut Context<'_>, _: &mut [IoSliceMut<'_>], _: &mut [RecvMeta]) -> Poll<io::Result<usize>> {
             Poll::Pending
         }
     }

@@ -13,7 +13,8 @@ pub struct Table {
 }
 
 const ORDER: [&str; 15] = [
-    "write", "drive", "take", "hand", "read", "close", "raw", "base", "open", "room", "look", "numbers", "encode", "decode", "spoil",
+    "write", "drive", "take", "hand", "read", "close", "raw", "base", "open", "room", "look", "numbers", "encode", "decode",
+    "spoil",
 ];
 
 /// Answers in the order of the table: refusals by number, then the words.
