@@ -5,6 +5,19 @@ use super::*;
 pub(super) fn drills(list: &mut List) {
     list.drill("a fresh stream", vec![look(0), look(1), room(0, 14_000)]);
     list.drill("a deadline that passes with nothing sent", vec![driven(0, 5 * SECOND, 1)]);
+    list.drill(
+        "a read of 4,096 bytes: the longest line",
+        vec![
+            base(0, 0, 0, 50_000),
+            write(0, 4_140, 0xc3),
+            driven(0, 0, 1),
+            hand(1, 0, 0),
+            hand(1, 1, 0),
+            hand(1, 2, 0),
+            read(1, 4_096),
+            read(1, 4_096),
+        ],
+    );
     list.drill("a script of 65,536 bytes", vec![raw(0, 0, &vec![255; 65_536 - 12 - 4])]);
     list.stop("a raw delivery that crosses byte 65,536", vec![look(0), raw(0, 0, &vec![255; 65_536 - 12 - 1])]);
     // Edge: SACK payloads of 8, 9, 16, 17 bytes hold 0, 1, 1, 2 blocks.

@@ -48,6 +48,10 @@ pub(super) fn sessions(list: &mut List) {
         "the last byte of the window",
         vec![write(0, 1_380, 1), write(0, 1_379, 2), write(0, 2, 3), write(0, 1, 4), write(0, 1, 5), driven(0, 0, 4)],
     );
+    list.session(
+        "a packet as long as the least window is queued again",
+        vec![write(0, 1_380, 1), driven(0, 0, 2), driven(0, SECOND, 2)],
+    );
     // Half the window holds the first; the second is too long for what is left, and the third does not overtake it.
     list.session(
         "waiting packets are queued up to the first that does not fit",
