@@ -1,0 +1,58 @@
+//! How soon a wrong version is noticed.
+
+use crate::engine::{Engine, ORIGINAL};
+use crate::generate;
+use crate::record::Recorded;
+use crate::script::{self, Kind};
+use crate::{mutants, mutations, named};
+use std::panic::{AssertUnwindSafe, catch_unwind};
+
+/// A panic of the wrong version is noticed too.
+fn differs((kind, bytes, lines): &Recorded, engine: Engine) -> bool {
+    catch_unwind(AssertUnwindSafe(|| script::run(*kind, bytes, engine))).map_or(true, |ours| ours != *lines)
+}
+
+/// Prints for each mutation how many random scripts it took, from the seed on, and how many named and recorded ones notice it.
+/// True where each one was noticed by some random script.
+pub fn hunt(seed: u64, count: u64, recorded: &[Recorded]) -> bool {
+    std::panic::set_hook(Box::new(|_| {}));
+    let batch = |kind| -> Vec<Recorded> {
+        (seed..seed + count).map(|seed| generate::script(kind, seed)).map(|one| (kind, one.bytes, one.lines)).collect()
+    };
+    let far = |(kind, bytes, _): &Recorded| {
+        script::commands(*kind, bytes).windows(2).any(|pair| script::walks_far(&bytes[pair[0]..pair[1]]))
+    };
+    let recorded: Vec<Recorded> = recorded.iter().filter(|one| !far(one)).cloned().collect();
+    let random = [batch(Kind::Session), batch(Kind::Drill)];
+    let named: Vec<Recorded> = named::all()
+        .into_iter()
+        .filter(|one| !one.slow)
+        .map(|one| (one.kind, script::run(one.kind, &one.bytes, ORIGINAL), one.bytes))
+        .map(|(kind, lines, bytes)| (kind, bytes, lines))
+        .filter(|one| !far(one))
+        .collect();
+    println!(
+        "random: how many scripts it took, of {count} of each kind; named, recorded: how many differ, of {} and {}",
+        named.len(),
+        recorded.len()
+    );
+    println!("{:48}{:>9}{:>9}{:>9}{:>10}", "", "session", "drill", "named", "recorded");
+    let mut all = true;
+    for (mutation, engine) in mutations::ALL.iter().zip(mutants::ENGINES) {
+        let first = |list: &Vec<Recorded>| list.iter().position(|one| differs(one, *engine));
+        let found = random.each_ref().map(first);
+        let differing = |list: &[Recorded]| list.iter().filter(|one| differs(one, *engine)).count();
+        let word = |found: Option<usize>| found.map_or("-".into(), |index| (index + 1).to_string());
+        println!(
+            "{:48}{:>9}{:>9}{:>9}{:>10}",
+            mutation.name,
+            word(found[0]),
+            word(found[1]),
+            differing(&named),
+            differing(&recorded)
+        );
+        all &= found.iter().any(Option::is_some);
+    }
+    println!("{} mutations, {}", mutations::ALL.len(), if all { "each noticed" } else { "NOT each noticed" });
+    all
+}
