@@ -20,10 +20,11 @@ use Rattle.records.specs.declared.Totals.{Totals}
 use Rattle.words.specs.Words.{sentIn, isStored}
 use Rattle.records.specs.Cut.{cut, outgoingSlot}
 use Rattle.records.specs.Seen.{Lent, seen, packetOf, seenSender, seenTotals, seenOutgoing}
+use Rattle.records.specs.Setters.{withWords}
 use Rattle.records.proofs.Cut.{cut-length}
 use Rattle.records.proofs.SeenOutgoing.{get-outgoing, drop-outgoing}
 use Rattle.acking.specs.declared.Acks.{Acks}
-use Rattle.acking.specs.Acked.{leftSender, measuredRtt, ackedTotals, InWindow, Measures, withAcks, withWords, SameNumbers, AcksOne}
+use Rattle.acking.specs.Acked.{leftSender, measuredRtt, ackedTotals, InWindow, Measures, withAcks, SameNumbers, AcksOne}
 
 -- three groups of an end
 groups : (e : model.End) {a a′ : model.Sender} {b b′ : model.Timing} {c c′ : model.Totals} → a ≡ a′ → b ≡ b′ → c ≡ c′

@@ -15,9 +15,10 @@ use Rattle.model.specs.Receiving.{ackNumber, ackNumbers, ackBlocks}
 use Rattle.records.specs.declared.Sender.{Sender}
 use Rattle.records.specs.declared.Stream.{Stream}
 use Rattle.records.specs.Seen.{Lent, seen}
+use Rattle.records.specs.Setters.{withWords}
 use Rattle.records.proofs.SeenOutgoing.{outgoing-length, get-settled, get-unsent}
 use Rattle.acking.specs.declared.Acks.{Acks}
-use Rattle.acking.specs.Acked.{Timed, InWindow, withAcks, withWords, SameNumbers, AcksOne}
+use Rattle.acking.specs.Acked.{Timed, InWindow, withAcks, SameNumbers, AcksOne}
 use Rattle.acking.specs.Sacks.{RunInWindow, AcksRun, AcksBlocks}
 use Rattle.acking.proofs.AckOne.{same-refl}
 use Rattle.acking.proofs.Clipped.{clipped}

@@ -13,6 +13,7 @@ use Rattle.records.specs.declared.Sender.{Sender}
 use Rattle.records.specs.declared.Totals.{Totals}
 use Rattle.records.specs.declared.Stream.{Stream}
 use Rattle.records.specs.Seen.{Lent, seen}
+use Rattle.records.specs.Setters.{withWords}
 use Rattle.acking.specs.declared.Acks.{Acks}
 
 -- 01: "An acked packet not waiting leaves inflight."
@@ -69,10 +70,6 @@ withAcks a s =
       ending = s .ending;
       clocks = s .clocks;
     }
-
-abbrev pub withWords : List ℕ → Lent → Lent
-withWords sent l =
-    record { sent = sent; held = l .held; queue = l .queue; outgoing = l .outgoing; incoming = l .incoming; headers = l .headers }
 
 -- the numbers that no acknowledged packet changes
 pub record SameNumbers (s r : Sender) : Type 0 where

@@ -10,8 +10,9 @@ use Rattle.model.specs.Receiving.{ackNumbers, ackBlocks}
 use Rattle.records.specs.declared.Sender.{Sender}
 use Rattle.records.specs.declared.Stream.{Stream}
 use Rattle.records.specs.Seen.{Lent, seen}
+use Rattle.records.specs.Setters.{withWords}
 use Rattle.acking.specs.declared.Acks.{Acks}
-use Rattle.acking.specs.Acked.{withAcks, withWords, SameNumbers}
+use Rattle.acking.specs.Acked.{withAcks, SameNumbers}
 
 -- numbers that may be stored
 pub record RunInWindow (s : Sender) (from to : ℕ) : Type 0 where

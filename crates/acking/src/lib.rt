@@ -1,11 +1,15 @@
 // Acknowledged packets leave the outgoing store: those of SACK blocks when they are delivered, the others when a drive settles them.
 ghost use mathlib.Core.Path.{_≡_};
-ghost use Prim.Native.Nat.{_+_, _-_, _≤_, _<_, _^_, max, min};
+ghost use Prim.Native.Nat.{_+_, _≤_, _<_, _^_};
 ghost use lib.ListN.{length};
 ghost use Rattle.rtt.specs.Estimate.{InRange};
 ghost use Rattle.acking.specs.Acked.{leftSender, measuredRtt, ackedTotals, Measures, Timed, InWindow, AcksOne};
 ghost use Rattle.acking.specs.Sacks.{RunInWindow, AcksRun, AcksBlocks};
 use packet::Block;
+use picks::larger;
+use picks::less;
+use picks::less64;
+use picks::smaller;
 use records::Sender;
 use records::Sent;
 use records::Totals;
@@ -19,24 +23,11 @@ pub struct Acks {
     pub totals: Totals,
 }
 
-// a - b, or 0 where b is more.
-fn less(a: u64, b: u64) -> u64
-    ensures { λ r. ⌜ (r ≡ a - b) × (r ≤ a) ⌝ }
-{
-    if b <= a { a - b } else { 0 }
-}
-
-fn less32(a: u32, b: u32) -> u32
-    ensures { λ r. ⌜ r ≡ a - b ⌝ }
-{
-    if b <= a { a - b } else { 0 }
-}
-
 // "An acked packet not waiting leaves inflight."
 fn left_sender(s: Sender, p: Sent) -> Sender
     ensures { λ r. ⌜ r ≡ leftSender s p ⌝ }
 {
-    let rest = less32(s.inflight, p.length);
+    let rest = less(s.inflight, p.length);
     let inflight = if p.waiting { s.inflight } else { rest };
     Sender {
         seq: s.seq,
@@ -54,7 +45,7 @@ fn measured(e: Rtt, p: Sent, clock: Nanos) -> Rtt
 {
     if p.transmits == 1 {
         if p.timed {
-            return e.sample(Nanos(less(clock.0, p.sent_at.0)));
+            return e.sample(Nanos(less64(clock.0, p.sent_at.0)));
         }
     }
     e
@@ -64,14 +55,14 @@ fn measured(e: Rtt, p: Sent, clock: Nanos) -> Rtt
 fn acked_totals(t: Totals, p: Sent) -> Totals
     ensures { λ r. ⌜ r ≡ ackedTotals t p ⌝ }
 {
-    let payload = less32(p.length, 20) as u64;
+    let payload = less(p.length, 20) as u64;
     Totals {
         tx_packets: t.tx_packets,
         tx_bytes: t.tx_bytes,
         rx_packets: t.rx_packets,
         rx_bytes: t.rx_bytes,
-        inflight_packets: less(t.inflight_packets, 1),
-        inflight_bytes: less(t.inflight_bytes, payload),
+        inflight_packets: less64(t.inflight_packets, 1),
+        inflight_bytes: less64(t.inflight_bytes, payload),
     }
 }
 
@@ -108,18 +99,6 @@ fn ack_numbers(a: Acks, clock: Nanos, sent: &mut [u64; 64], from: u32, to: u32) 
         n += 1;
     }
     b
-}
-
-fn larger(a: u32, b: u32) -> u32
-    ensures { λ r. ⌜ r ≡ max a b ⌝ }
-{
-    if a < b { b } else { a }
-}
-
-fn smaller(a: u32, b: u32) -> u32
-    ensures { λ r. ⌜ r ≡ min a b ⌝ }
-{
-    if a < b { a } else { b }
 }
 
 // The numbers of a block, end excluded. No number outside of remote_acked to below seq is stored, so a block costs 32 turns at most,

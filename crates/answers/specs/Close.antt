@@ -3,8 +3,9 @@ use Rattle.error.specs.declared.Outcome.the-variants.{Ready}
 use Rattle.records.specs.declared.Ending.{Ending}
 use Rattle.records.specs.declared.Stream.{Stream}
 use Rattle.closing.specs.declared.Queued.{Queued}
-use Rattle.closing.specs.State.{withQueue, withEnding}
+use Rattle.closing.specs.State.{withEnding}
 use Rattle.answers.specs.declared.step.Step.{Step}
+use Rattle.records.specs.Setters.{withQueue}
 
 abbrev pub closedStep : Stream → Ending → Queued → Step
 closedStep s x a = record { stream = withQueue (a .queue) (withEnding x s); totals = a .totals; outcome = Ready; count = 0; segment = 0 }

@@ -20,12 +20,13 @@ use Rattle.records.specs.declared.Totals.{Totals}
 use Rattle.words.specs.Words.{entryOf, entryWord}
 use Rattle.records.specs.Put.{put}
 use Rattle.records.specs.Seen.{Lent, seen, seenQueue, seenTotals, formedQueue}
+use Rattle.records.specs.Setters.{withQueue}
 use Rattle.words.proofs.WordLaws.{entry-back}
 use Rattle.records.proofs.Put.{put-length}
 use Rattle.records.proofs.SeenQueue.{queue-state}
 use Rattle.records.proofs.FormedQueue.{queue-said, queue-says, formed-state}
 use Rattle.closing.specs.declared.Queued.{Queued}
-use Rattle.closing.specs.State.{seenEnding, stateHeader, stateEntry, pushedState, countedState, Pushable, StateQueued, withQueue, withEnding, withState}
+use Rattle.closing.specs.State.{seenEnding, stateHeader, stateEntry, pushedState, countedState, Pushable, StateQueued, withEnding, withState}
 
 entry-said : entryOf (entryWord stateEntry) ≡ stateEntry
 entry-said = entry-back stateEntry (omega arith) (omega arith)

@@ -66,19 +66,7 @@ pub record StateQueued (q : Queue) (t : Totals) (error : UdxError) (remote seq a
   pub queue-long : length queue′ ≡ 128
   pub headers-long : length headers′ ≡ 1_280
 
--- a stream with another queue, or another ending
-abbrev pub withQueue : Queue → Stream → Stream
-withQueue q s =
-    record {
-      ids = s .ids;
-      sender = s .sender;
-      receiver = s .receiver;
-      queue = q;
-      timing = s .timing;
-      ending = s .ending;
-      clocks = s .clocks;
-    }
-
+-- a stream with another ending
 abbrev pub withEnding : Ending → Stream → Stream
 withEnding x s =
     record {

@@ -2,7 +2,7 @@
 ghost use mathlib.Core.Path.{_≡_};
 ghost use Prim.Native.Nat.{_<_};
 ghost use lib.ListN.{length};
-ghost use Rattle.model.specs.Sending.{isSet, stateType, closeLocal, closeRemote, failed};
+ghost use Rattle.model.specs.Sending.{stateType, closeLocal, closeRemote, failed};
 ghost use Rattle.model.specs.Receiving.{remoteEnded};
 ghost use Rattle.records.specs.Seen.{seenState};
 ghost use Rattle.closing.specs.State.{
@@ -81,17 +81,6 @@ pub fn remote_ended(x: Ending) -> Ending
     }
 }
 
-fn is_set(error: UdxError) -> bool
-    ensures { λ r. ⌜ r ≡ isSet error ⌝ }
-{
-    match error {
-        UdxError::None => false,
-        UdxError::ConnectionReset => true,
-        UdxError::UnexpectedEof => true,
-        UdxError::TimedOut => true,
-    }
-}
-
 // "State packets carry END once an error is set."
 fn state_type(failed: bool) -> u8
     ensures { λ r. ⌜ r ≡ stateType failed ⌝ }
@@ -102,7 +91,7 @@ fn state_type(failed: bool) -> u8
 fn state_header(error: UdxError, remote: u32, seq: u32, ack: u32) -> Header
     ensures { λ r. ⌜ r ≡ stateHeader error remote seq ack ⌝ }
 {
-    create_header(state_type(is_set(error)), remote, seq, ack)
+    create_header(state_type(records::is_set(error)), remote, seq, ack)
 }
 
 fn state_entry() -> Entry

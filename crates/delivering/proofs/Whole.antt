@@ -16,8 +16,8 @@ use Rattle.records.specs.declared.Sender.{Sender}
 use Rattle.records.specs.declared.Stream.{Stream}
 use Rattle.records.specs.declared.Totals.{Totals}
 use Rattle.records.specs.Seen.{Lent, seen, formedQueue}
+use Rattle.records.specs.Setters.{withWords}
 use Rattle.closing.specs.State.{Pushable, withState}
-use Rattle.acking.specs.Acked.{withWords}
 use Rattle.receiving.specs.Layout.{Laid}
 use Rattle.receiving.specs.Absorbing.{Accepted}
 use Rattle.handling.specs.declared.Delivered.{Delivered}

@@ -13,6 +13,7 @@ use Rattle.records.specs.declared.Queue.{Queue}
 use Rattle.records.specs.declared.Stream.{Stream}
 use Rattle.records.specs.declared.Totals.{Totals}
 use Rattle.records.specs.Seen.{Lent, seen, seenOutgoing, QueueFormed}
+use Rattle.records.specs.Setters.{withQueue}
 
 -- one of the numbers is stored
 pub record AnyStored (s : Sender) (sent : List ℕ) (r : Bool) : Type 0 where
@@ -23,19 +24,6 @@ pub record AnyStored (s : Sender) (sent : List ℕ) (r : Bool) : Type 0 where
 pub record Drains (error : UdxError) (q : Queue) (s : Sender) (sent : List ℕ) (r : Bool) : Type 0 where
   pub test : (st : Stream) (t : Totals) (l : Lent) → st .ending .error ≡ error → st .queue ≡ q → st .sender ≡ s → l .sent ≡ sent → length (l .queue) ≡ 128
       → r ≡ drive.drained (seen st t l)
-
--- a stream with this queue
-abbrev pub withQueue : Queue → Stream → Stream
-withQueue q st =
-    record {
-      ids = st .ids;
-      sender = st .sender;
-      receiver = st .receiver;
-      queue = q;
-      timing = st .timing;
-      ending = st .ending;
-      clocks = st .clocks;
-    }
 
 -- 01, 'Records', stream: "how many queue entries that drive left to take"; call 5: "what was queued since waits for the next drive"
 pub record LeavesToTake (q r : Queue) : Type 0 where

@@ -1,22 +1,9 @@
 // The ends of a drive: whether a stream that ended is drained (closed_and_drained), and what a drive leaves to take.
 ghost use mathlib.Core.Path.{_≡_};
-ghost use Rattle.model.specs.Sending.{isSet};
 ghost use Rattle.draining.specs.Draining.{AnyStored, Drains, LeavesToTake};
 use error::UdxError;
 use records::Queue;
 use records::Sender;
-
-// The stream has an error (Option::is_some).
-fn is_set(error: UdxError) -> bool
-    ensures { λ r. ⌜ r ≡ isSet error ⌝ }
-{
-    match error {
-        UdxError::None => false,
-        UdxError::ConnectionReset => true,
-        UdxError::UnexpectedEof => true,
-        UdxError::TimedOut => true,
-    }
-}
 
 // A packet is stored: not outgoing.is_empty().
 pub fn any_stored(s: Sender, sent: &[u64; 64]) -> bool
@@ -38,7 +25,7 @@ pub fn drained(error: UdxError, q: Queue, s: Sender, sent: &[u64; 64]) -> bool
     requires { ⌜ q .left ≡ 0 ⌝ }
     ensures { λ r. ⌜ Drains error q s (now (sent .entry)) r ⌝ }
 {
-    if is_set(error) {
+    if records::is_set(error) {
         if q.count == 0 {
             let stored = any_stored(s, sent);
             return !stored;

@@ -36,7 +36,3 @@ withSender s st =
       ending = st .ending;
       clocks = st .clocks;
     }
-
--- other words of the stored packets
-abbrev pub withWords : List ℕ → Lent → Lent
-withWords sent l = record { sent = sent; held = l .held; queue = l .queue; outgoing = l .outgoing; incoming = l .incoming; headers = l .headers }

@@ -9,8 +9,9 @@ use Rattle.records.specs.declared.Sender.{Sender}
 use Rattle.records.specs.declared.Stream.{Stream}
 use Rattle.records.specs.declared.Totals.{Totals}
 use Rattle.records.specs.Seen.{Lent, seen}
+use Rattle.records.specs.Setters.{withWords}
 use Rattle.driving.specs.declared.timeouts.Passed.{Passed}
-use Rattle.driving.specs.Packets.{Stored, withInflight, withSender, withWords}
+use Rattle.driving.specs.Packets.{Stored, withInflight, withSender}
 
 -- 01, call 4: "gains a transmit, waits"
 abbrev pub lostPacket : Sent → Sent

@@ -1,15 +1,7 @@
 // The bytes of the stored packets that do not wait.
 ghost use mathlib.Core.Path.{_≡_};
-ghost use Prim.Native.Nat.{_-_};
 ghost use Rattle.driving.specs.Packets.{withInflight};
 use records::Sender;
-
-// a - b, or 0 where b is more.
-pub fn less(a: u32, b: u32) -> u32
-    ensures { λ r. ⌜ r ≡ a - b ⌝ }
-{
-    if b <= a { a - b } else { 0 }
-}
 
 // The sender with another inflight.
 pub fn with_inflight(s: Sender, inflight: u32) -> Sender

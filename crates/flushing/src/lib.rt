@@ -6,6 +6,7 @@ ghost use lib.Dec.{leb};
 ghost use Rattle.words.specs.Words.{isStored};
 ghost use Rattle.flushing.specs.Flushing.{flushedPacket, flushedEntry, withCount, flushedOf, FlushesPacket, Roomy, Flushes};
 use driving::with_inflight;
+use picks::fits;
 use records::Entry;
 use records::Queue;
 use records::Sender;
@@ -23,17 +24,6 @@ fn waits(p: Sent, n: u32) -> bool
 {
     if records::is_stored(p, n) {
         p.waiting
-    } else {
-        false
-    }
-}
-
-// inflight + length is at most the window; by a difference, so that no sum can wrap.
-fn fits(inflight: u32, length: u32, cwnd: u32) -> bool
-    ensures { λ r. ⌜ r ≡ leb (inflight + length) cwnd ⌝ }
-{
-    if inflight <= cwnd {
-        length <= cwnd - inflight
     } else {
         false
     }

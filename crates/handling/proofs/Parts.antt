@@ -21,8 +21,9 @@ use Rattle.records.specs.declared.Receiver.{Receiver}
 use Rattle.records.specs.declared.Stream.{Stream}
 use Rattle.records.specs.declared.Totals.{Totals}
 use Rattle.records.specs.Seen.{Lent, seen, seenReceiver, seenTotals, formedQueue}
+use Rattle.records.specs.Setters.{withQueue}
 use Rattle.closing.specs.declared.Queued.{Queued}
-use Rattle.closing.specs.State.{seenEnding, Pushable, StateQueued, withEnding, withQueue, withState}
+use Rattle.closing.specs.State.{seenEnding, Pushable, StateQueued, withEnding, withState}
 use Rattle.closing.proofs.StatePacket.{state-seen, terminate-seen}
 use Rattle.acking.specs.declared.Acks.{Acks}
 use Rattle.acking.specs.Sacks.{AcksBlocks}

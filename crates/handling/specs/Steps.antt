@@ -17,8 +17,9 @@ use Rattle.records.specs.declared.Timing.{Timing}
 use Rattle.records.specs.declared.Stream.{Stream}
 use Rattle.records.specs.declared.Totals.{Totals}
 use Rattle.records.specs.Seen.{Lent, seen, formedQueue}
-use Rattle.closing.specs.State.{withState, withQueue, withEnding}
-use Rattle.acking.specs.Acked.{withWords, SameNumbers}
+use Rattle.records.specs.Setters.{withQueue, withWords}
+use Rattle.closing.specs.State.{withState, withEnding}
+use Rattle.acking.specs.Acked.{SameNumbers}
 use Rattle.receiving.specs.Layout.{Laid}
 use Rattle.receiving.specs.Absorbing.{Accepted}
 use Rattle.handling.specs.declared.Delivered.{Delivered}

@@ -1,10 +1,10 @@
 // What every delivery notes, whatever its datagram holds: counts, clock, the largest ack and the window.
 ghost use mathlib.Core.Path.{_≡_};
 ghost use mathlib.Core.Bool.{cond};
-ghost use Prim.Native.Nat.{max};
 ghost use lib.Dec.{ltb};
 ghost use Rattle.rtt.specs.Window.{grown};
 ghost use Rattle.noting.specs.Numbers.{countedReceived, countedData, clockedStream, ackedSender};
+use picks::larger;
 use records::Clocks;
 use records::Sender;
 use records::Stream;
@@ -60,12 +60,6 @@ fn window(cwnd: u32, remote_acked: u32, ack: u32) -> u32
         return rtt::grow(cwnd);
     }
     cwnd
-}
-
-fn larger(a: u32, b: u32) -> u32
-    ensures { λ r. ⌜ r ≡ max a b ⌝ }
-{
-    if a < b { b } else { a }
 }
 
 // The largest ack since the last drive, and the window.

@@ -1,7 +1,8 @@
 // Combinators in place of branches: total, so that a caller owes nothing.
 ghost use mathlib.Core.Path.{_≡_};
 ghost use mathlib.Core.Bool.{true, cond, _&&_};
-ghost use Prim.Native.Nat.{_-_};
+ghost use Prim.Native.Nat.{_+_, _-_, _≤_, max, min};
+ghost use lib.Dec.{leb};
 
 pub fn both(a: bool, b: bool) -> bool
     ensures { λ r. ⌜ r ≡ (a && b) ⌝ }
@@ -33,4 +34,29 @@ pub fn less(a: u32, b: u32) -> u32
     ensures { λ r. ⌜ r ≡ a - b ⌝ }
 {
     if b <= a { a - b } else { 0 }
+}
+
+pub fn less64(a: u64, b: u64) -> u64
+    ensures { λ r. ⌜ (r ≡ a - b) × (r ≤ a) ⌝ }
+{
+    if b <= a { a - b } else { 0 }
+}
+
+pub fn larger(a: u32, b: u32) -> u32
+    ensures { λ r. ⌜ r ≡ max a b ⌝ }
+{
+    if a < b { b } else { a }
+}
+
+pub fn smaller(a: u32, b: u32) -> u32
+    ensures { λ r. ⌜ r ≡ min a b ⌝ }
+{
+    if a < b { a } else { b }
+}
+
+// The sum of two numbers is at most a third; by a difference, so that no sum can wrap.
+pub fn fits(a: u32, b: u32, most: u32) -> bool
+    ensures { λ r. ⌜ r ≡ leb (a + b) most ⌝ }
+{
+    if a <= most { b <= most - a } else { false }
 }

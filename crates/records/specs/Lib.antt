@@ -3,3 +3,4 @@ pub mod Cut
 pub mod Put
 pub mod Seen
 pub mod Open
+pub mod Setters

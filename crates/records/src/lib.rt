@@ -1,9 +1,11 @@
 // The records of a stream: its numbers by value, in the groups of the model; its packets and its queue as words of lent arrays; the
 // bytes in three lent stores. specs/Seen.antt says what they mean.
+mod errors;
 mod opening;
 
 use error::Outcome;
 use error::UdxError;
+pub use errors::is_set;
 pub use opening::Opened;
 pub use opening::open;
 use rtt::Nanos;

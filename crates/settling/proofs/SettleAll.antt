@@ -23,10 +23,11 @@ use Rattle.records.specs.declared.Totals.{Totals}
 use Rattle.words.specs.Words.{sentIn, isStored}
 use Rattle.records.specs.Cut.{outgoingSlot}
 use Rattle.records.specs.Seen.{Lent, seen, seenOutgoing, marksOf, packetOf}
+use Rattle.records.specs.Setters.{withWords}
 use Rattle.records.proofs.Cut.{cut-length}
 use Rattle.records.proofs.SeenOutgoing.{outgoing-length, get-outgoing}
 use Rattle.acking.specs.declared.Acks.{Acks}
-use Rattle.acking.specs.Acked.{InWindow, withAcks, withWords}
+use Rattle.acking.specs.Acked.{InWindow, withAcks}
 use Rattle.driving.specs.Packets.{Within, Stored}
 use Rattle.driving.proofs.Remark.{untimed}
 use Rattle.settling.specs.declared.Polled.{Polled}

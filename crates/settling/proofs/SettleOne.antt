@@ -16,10 +16,11 @@ use Rattle.model.specs.Driving as drive
 use Rattle.model.proofs.Slots.{no-some, remove-cases}
 use Rattle.records.specs.declared.Stream.{Stream}
 use Rattle.records.specs.Seen.{Lent, seen, seenOutgoing}
+use Rattle.records.specs.Setters.{withWords}
 use Rattle.records.proofs.SeenSlots.{remove-absent}
 use Rattle.records.proofs.SeenOutgoing.{outgoing-length, settle-outgoing}
 use Rattle.acking.specs.declared.Acks.{Acks}
-use Rattle.acking.specs.Acked.{InWindow, withAcks, withWords, AcksOne}
+use Rattle.acking.specs.Acked.{InWindow, withAcks, AcksOne}
 use Rattle.settling.specs.Settling.{pastOne, SettlesOne}
 
 -- what is stored after an acknowledged number was stored before, under another number

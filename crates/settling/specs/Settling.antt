@@ -10,8 +10,9 @@ use Rattle.records.specs.declared.Timing.{Timing}
 use Rattle.records.specs.declared.Stream.{Stream}
 use Rattle.records.specs.declared.Totals.{Totals}
 use Rattle.records.specs.Seen.{Lent, seen}
+use Rattle.records.specs.Setters.{withWords}
 use Rattle.acking.specs.declared.Acks.{Acks}
-use Rattle.acking.specs.Acked.{withAcks, withWords}
+use Rattle.acking.specs.Acked.{withAcks}
 use Rattle.timer.specs.Timer.{timingSeen}
 use Rattle.driving.specs.Packets.{Stored}
 use Rattle.settling.specs.declared.Polled.{Polled}

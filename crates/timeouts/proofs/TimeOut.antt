@@ -18,10 +18,10 @@ use Rattle.records.specs.declared.Timing.{Timing}
 use Rattle.records.specs.declared.Stream.{Stream}
 use Rattle.records.specs.declared.Totals.{Totals}
 use Rattle.records.specs.Seen.{Lent, seen, formedQueue}
+use Rattle.records.specs.Setters.{withQueue, withWords}
 use Rattle.closing.specs.declared.Queued.{Queued}
-use Rattle.closing.specs.State.{seenEnding, Pushable, StateQueued, withQueue, withEnding, withState}
+use Rattle.closing.specs.State.{seenEnding, Pushable, StateQueued, withEnding, withState}
 use Rattle.closing.proofs.StatePacket.{terminate-seen}
-use Rattle.acking.specs.Acked.{withWords}
 use Rattle.driving.specs.declared.timeouts.Passed.{Passed}
 use Rattle.driving.specs.Packets.{Stored}
 use Rattle.timer.specs.Timer.{timingSeen, IsDue, Shrinks}

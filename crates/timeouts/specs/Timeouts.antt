@@ -13,8 +13,8 @@ use Rattle.records.specs.declared.Queue.{Queue}
 use Rattle.records.specs.declared.Stream.{Stream}
 use Rattle.records.specs.declared.Totals.{Totals}
 use Rattle.records.specs.Seen.{Lent, seen, formedQueue}
-use Rattle.closing.specs.State.{Pushable, withQueue, withEnding, withState}
-use Rattle.acking.specs.Acked.{withWords}
+use Rattle.records.specs.Setters.{withQueue, withWords}
+use Rattle.closing.specs.State.{Pushable, withEnding, withState}
 use Rattle.driving.specs.Packets.{Stored}
 use Rattle.settling.specs.declared.Polled.{Polled}
 use Rattle.timeouts.specs.declared.Lost.{Lost}

@@ -5,7 +5,7 @@ use Rattle.acking.proofs.acked_totals.Statement.{statement}
 use Rattle.acking.proofs.acked_totals.Tie as tie
 
 returns : tie.Need-returns
-returns c = rw (c .less2 .ensures .0, c .before .less .ensures .0, c .before .before .less32 .ensures)
+returns c = rw (c .less642 .ensures .0, c .before .less64 .ensures .0, c .before .before .less .ensures)
 
 pub acked-totals-spec : {M : Type 1} → statement M
 acked-totals-spec = tie.close (tie.spec (λ c κs. search needs) (λ c. search needs) (λ c κs. search needs) (λ c κs. search needs) returns)

@@ -10,7 +10,7 @@ use Rattle.acking.proofs.measured.Tie as tie
 sample-requires : tie.Need-sample-requires
 sample-requires c κs =
     let b = c .before .before .before .before in
-    let l = c .less .ensures .1 in
+    let l = c .less64 .ensures .1 in
     let h = b .pre .1 in
     (b .pre .0, omega arith)
 
@@ -19,7 +19,7 @@ returns c =
     let b = c .before .before .before .before .before in
     record {
       estimate =
-          c .sample .ensures .estimate ∙ ap (sampled (b .args .e)) (c .before .less .ensures .0)
+          c .sample .ensures .estimate ∙ ap (sampled (b .args .e)) (c .before .less64 .ensures .0)
           ∙ rw (eq-eqb _ _ (c .before .before .before .if1 .taken), c .before .before .if2 .taken) refl;
       range = c .sample .ensures .range;
     }
