@@ -1,0 +1,230 @@
+// The drill's commands as bytes.
+ghost use Prim.Native.Nat.{_<_, _≤_};
+ghost use lib.ListN.{length};
+use packet::Header;
+use script::byte_at;
+use script::u16_at;
+use script::u32_at;
+use script::u64_at;
+
+pub enum Drill {
+    Raw {
+        end: u8,
+        clock: u64,
+        length: u16,
+    },
+    Base {
+        end: u8,
+        seq: u32,
+        ack: u32,
+        window: u32,
+    },
+    Open {
+        end: u8,
+        local: u32,
+        remote: u32,
+        ceiling: u8,
+        clock: u64,
+    },
+    Room {
+        end: u8,
+        length: u16,
+    },
+    Look {
+        end: u8,
+    },
+    Numbers {
+        end: u8,
+    },
+    Encode {
+        length: u8,
+        header: Header,
+    },
+    Decode {
+        length: u8,
+    },
+    Spoil {
+        end: u8,
+        which: u8,
+        call: u8,
+        clock: u64,
+    },
+    // It ends the run.
+    Bad,
+    // A session's command, or no command at all: the session tells.
+    Session,
+}
+
+// A command's bytes without those whose number it gives itself; 0 where it is none of the drill's.
+fn fixed_size(command: u8) -> usize
+    ensures { λ r. ⌜ r ≤ 20 ⌝ }
+{
+    match command {
+        0..=15 => 0,
+        16 => 12,
+        17 => 14,
+        18 => 19,
+        19 => 4,
+        20 => 2,
+        21 => 2,
+        22 => 20,
+        23 => 2,
+        24 => 12,
+        25..=255 => 0,
+    }
+}
+
+// The bytes at the end of a command whose number it gives itself.
+fn more(s: &[u8]) -> usize
+    ensures { λ r. ⌜ r ≤ 65_535 ⌝ }
+{
+    match byte_at(s, 0) {
+        16 => u16_at(s, 10) as usize,
+        23 => byte_at(s, 1) as usize,
+        _ => 0,
+    }
+}
+
+// The header that an encode gives.
+fn header(s: &[u8]) -> Header {
+    Header {
+        typ: byte_at(s, 2),
+        data_offset: byte_at(s, 3),
+        stream_id: u32_at(s, 4),
+        recv_win: u32_at(s, 8),
+        seq: u32_at(s, 12),
+        ack: u32_at(s, 16),
+    }
+}
+
+fn open(s: &[u8], end: u8) -> Drill {
+    Drill::Open {
+        end,
+        local: u32_at(s, 2),
+        remote: u32_at(s, 6),
+        ceiling: byte_at(s, 10),
+        clock: u64_at(s, 11),
+    }
+}
+
+fn base(s: &[u8], end: u8) -> Drill {
+    Drill::Base {
+        end,
+        seq: u32_at(s, 2),
+        ack: u32_at(s, 6),
+        window: u32_at(s, 10),
+    }
+}
+
+fn spoil(s: &[u8], end: u8) -> Drill {
+    Drill::Spoil {
+        end,
+        which: byte_at(s, 2),
+        call: byte_at(s, 3),
+        clock: u64_at(s, 4),
+    }
+}
+
+// The command at the front of s, which has all of its operands.
+fn operands(s: &[u8]) -> Drill {
+    let end = byte_at(s, 1);
+    match byte_at(s, 0) {
+        16 => Drill::Raw {
+            end,
+            clock: u64_at(s, 2),
+            length: u16_at(s, 10),
+        },
+        17 => base(s, end),
+        18 => open(s, end),
+        19 => Drill::Room {
+            end,
+            length: u16_at(s, 2),
+        },
+        20 => Drill::Look { end },
+        21 => Drill::Numbers { end },
+        22 => Drill::Encode {
+            length: end,
+            header: header(s),
+        },
+        23 => Drill::Decode { length: end },
+        24 => spoil(s, end),
+        _ => Drill::Session,
+    }
+}
+
+// The operands are in their ranges.
+fn in_range(drill: Drill) -> bool {
+    match drill {
+        Drill::Raw {
+            end,
+            clock: _,
+            length: _,
+        } => end <= 1,
+        Drill::Base {
+            end,
+            seq: _,
+            ack: _,
+            window: _,
+        } => end <= 1,
+        Drill::Open {
+            end,
+            local: _,
+            remote: _,
+            ceiling: _,
+            clock: _,
+        } => end <= 1,
+        Drill::Room { end, length } => both(end <= 1, length <= 14_000),
+        Drill::Look { end } => end <= 1,
+        Drill::Numbers { end } => end <= 1,
+        Drill::Encode { length, header: _ } => length <= 64,
+        Drill::Decode { length } => length <= 64,
+        Drill::Spoil {
+            end,
+            which,
+            call,
+            clock: _,
+        } => both(end <= 1, both(which <= 24, call <= 7)),
+        Drill::Bad => false,
+        Drill::Session => true,
+    }
+}
+
+fn both(a: bool, b: bool) -> bool {
+    if a { b } else { false }
+}
+
+// A command and how many bytes of the script it takes: all that are left where it ends the run. Of a session's command the first byte
+// alone counts here: the session tells the rest.
+pub struct Parsed {
+    pub drill: Drill,
+    pub size: usize,
+}
+
+// The command at the front of what is left of a script.
+pub fn parse(s: &[u8]) -> Parsed
+    requires { ⌜ 0 < length (now s) ⌝ }
+    ensures { λ r. ⌜ (0 < r .size) × (r .size ≤ length (now (s .entry))) ⌝ }
+{
+    let fixed = fixed_size(byte_at(s, 0));
+    if fixed == 0 {
+        return Parsed {
+            drill: Drill::Session,
+            size: 1,
+        };
+    }
+    let size = fixed + more(s);
+    if s.len() < size {
+        return Parsed {
+            drill: Drill::Bad,
+            size: s.len(),
+        };
+    }
+    let drill = operands(s);
+    if in_range(drill) {
+        return Parsed { drill, size };
+    }
+    Parsed {
+        drill: Drill::Bad,
+        size: s.len(),
+    }
+}

@@ -1,0 +1,13 @@
+// The drill's commands beside the session's: what they read, do and say stands in docs/DRILL.md.
+mod breaking;
+mod coding;
+mod commands;
+mod lines;
+mod numbers;
+mod running;
+mod spoiling;
+
+pub use running::run_one;
+pub use spoiling::SPARE_HEADERS;
+pub use spoiling::SPARE_INCOMING;
+pub use spoiling::SPARE_OUTGOING;

@@ -1,0 +1,166 @@
+// The calls on an end.
+use crate::End;
+use error::Outcome;
+use rtt::Nanos;
+use udx::Step;
+
+// An end after a call, and what the call answered.
+pub struct Called {
+    pub end: End,
+    pub outcome: Outcome,
+    pub count: usize,
+    pub segment: usize,
+}
+
+// An end after a step that left these words.
+fn stepped(e: End, step: Step, sent: [u64; 64], held: [u64; 32], queue: [u64; 128]) -> Called {
+    let stream = step.stream;
+    let totals = step.totals;
+    let kept = e.kept;
+    let outcome = step.outcome;
+    let end = End {
+        stream,
+        totals,
+        sent,
+        held,
+        queue,
+        kept,
+    };
+    Called {
+        end,
+        outcome,
+        count: step.count,
+        segment: step.segment,
+    }
+}
+
+pub fn write(e: End, bytes: &[u8], outgoing: &mut [u8], incoming: &[u8], headers: &[u8]) -> Called {
+    let mut sent = e.sent;
+    let held = e.held;
+    let mut queue = e.queue;
+    let step = udx::write(
+        e.stream,
+        e.totals,
+        &mut sent,
+        &held,
+        &mut queue,
+        outgoing,
+        incoming,
+        headers,
+        bytes,
+    );
+    stepped(e, step, sent, held, queue)
+}
+
+pub fn deliver(
+    e: End,
+    datagram: &[u8],
+    clock: u64,
+    outgoing: &[u8],
+    incoming: &mut [u8],
+    headers: &mut [u8],
+) -> Called {
+    let mut sent = e.sent;
+    let mut held = e.held;
+    let mut queue = e.queue;
+    let step = udx::deliver(
+        e.stream,
+        e.totals,
+        &mut sent,
+        &mut held,
+        &mut queue,
+        outgoing,
+        incoming,
+        headers,
+        datagram,
+        Nanos(clock),
+    );
+    stepped(e, step, sent, held, queue)
+}
+
+pub fn drive(e: End, clock: u64, outgoing: &[u8], incoming: &[u8], headers: &mut [u8]) -> Called {
+    let mut sent = e.sent;
+    let held = e.held;
+    let mut queue = e.queue;
+    let step = udx::drive(
+        e.stream,
+        e.totals,
+        &mut sent,
+        &held,
+        &mut queue,
+        outgoing,
+        incoming,
+        headers,
+        Nanos(clock),
+    );
+    stepped(e, step, sent, held, queue)
+}
+
+pub fn take(e: End, outgoing: &[u8], incoming: &[u8], headers: &[u8], buf: &mut [u8]) -> Called {
+    let mut sent = e.sent;
+    let held = e.held;
+    let queue = e.queue;
+    let step = udx::take(
+        e.stream,
+        e.totals,
+        &mut sent,
+        &held,
+        &queue,
+        outgoing,
+        incoming,
+        headers,
+        buf,
+    );
+    stepped(e, step, sent, held, queue)
+}
+
+pub fn read(e: End, outgoing: &[u8], incoming: &[u8], headers: &[u8], buf: &mut [u8]) -> Called {
+    let sent = e.sent;
+    let mut held = e.held;
+    let queue = e.queue;
+    let step = udx::read(
+        e.stream,
+        e.totals,
+        &sent,
+        &mut held,
+        &queue,
+        outgoing,
+        incoming,
+        headers,
+        buf,
+    );
+    stepped(e, step, sent, held, queue)
+}
+
+pub fn close(e: End, outgoing: &[u8], incoming: &[u8], headers: &mut [u8]) -> Called {
+    let sent = e.sent;
+    let held = e.held;
+    let mut queue = e.queue;
+    let step = udx::close(
+        e.stream,
+        e.totals,
+        &sent,
+        &held,
+        &mut queue,
+        outgoing,
+        incoming,
+        headers,
+    );
+    stepped(e, step, sent, held, queue)
+}
+
+pub fn look<'a>(e: End, outgoing: &'a [u8], incoming: &[u8], headers: &'a [u8]) -> &'a [u8] {
+    let sent = e.sent;
+    let held = e.held;
+    let queue = e.queue;
+    udx::look(
+        e.stream,
+        e.totals,
+        &sent,
+        &held,
+        &queue,
+        outgoing,
+        incoming,
+        headers,
+    )
+}

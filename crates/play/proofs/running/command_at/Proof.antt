@@ -1,0 +1,15 @@
+-- `play::running::command_at` meets its contract: a command of what is left has a byte at least.
+use native.Mathlib.Omega.{arith}
+use borrow.Author.Needs.{needs}
+use Rattle.play.proofs.running.command_at.Statement.{statement}
+use Rattle.play.proofs.running.command_at.Tie as tie
+
+returns : tie.Need-returns
+returns c =
+    let p = c .before .parse .ensures in
+    (omega (arith, p .on (omega arith)), omega (arith, p .within))
+
+pub command-at-spec : {M : Type 1} → statement M
+command-at-spec =
+    tie.close (tie.spec
+    (λ c. search needs) (λ c. search needs) (λ c. search needs) (λ c κs. search needs) (λ c. search needs) returns)

@@ -1,0 +1,87 @@
+// Runs the script on standard input between two ends and writes a line for each command.
+use constants::HEADER_STORE;
+use constants::INCOMING_STORE;
+use constants::OUTGOING_STORE;
+use kept::KEPT_STORE;
+use libc::STDIN_FILENO;
+use libc::STDOUT_FILENO;
+use play::Ends;
+use play::SCRATCH;
+use text::LINE;
+
+fn write_line(line: &[u8], len: usize) {
+    if len <= line.len() {
+        io::write_all(STDOUT_FILENO, &line[0..len]);
+    }
+}
+
+fn run(
+    fresh: Ends,
+    script: &[u8],
+    outgoing_0: &mut [u8; OUTGOING_STORE],
+    incoming_0: &mut [u8; INCOMING_STORE],
+    headers_0: &mut [u8; HEADER_STORE],
+    kept_0: &mut [u8; KEPT_STORE],
+    outgoing_1: &mut [u8; OUTGOING_STORE],
+    incoming_1: &mut [u8; INCOMING_STORE],
+    headers_1: &mut [u8; HEADER_STORE],
+    kept_1: &mut [u8; KEPT_STORE],
+    scratch: &mut [u8; SCRATCH],
+    line: &mut [u8; LINE],
+) {
+    let mut ends = fresh;
+    let mut at: usize = 0;
+    while at < script.len() {
+        let t = play::run_one(
+            ends,
+            script,
+            at,
+            outgoing_0,
+            incoming_0,
+            headers_0,
+            kept_0,
+            outgoing_1,
+            incoming_1,
+            headers_1,
+            kept_1,
+            scratch,
+            line,
+        );
+        write_line(line, t.len);
+        ends = t.ends;
+        at = t.next;
+    }
+}
+
+fn main() {
+    let mut input = [0u8; 65_536];
+    let n = io::read_full(STDIN_FILENO, &mut input);
+    let mut outgoing_0 = [0u8; OUTGOING_STORE];
+    let mut incoming_0 = [0u8; INCOMING_STORE];
+    let mut headers_0 = [0u8; HEADER_STORE];
+    let mut kept_0 = [0u8; KEPT_STORE];
+    let mut outgoing_1 = [0u8; OUTGOING_STORE];
+    let mut incoming_1 = [0u8; INCOMING_STORE];
+    let mut headers_1 = [0u8; HEADER_STORE];
+    let mut kept_1 = [0u8; KEPT_STORE];
+    let mut scratch = [0u8; SCRATCH];
+    let mut line = [0u8; LINE];
+    let zero = ends::fresh_end(1, 2, &outgoing_0, &incoming_0, &headers_0);
+    let one = ends::fresh_end(2, 1, &outgoing_1, &incoming_1, &headers_1);
+    if n <= 65_536 {
+        run(
+            Ends { zero, one },
+            &input[0..n],
+            &mut outgoing_0,
+            &mut incoming_0,
+            &mut headers_0,
+            &mut kept_0,
+            &mut outgoing_1,
+            &mut incoming_1,
+            &mut headers_1,
+            &mut kept_1,
+            &mut scratch,
+            &mut line,
+        );
+    }
+}
