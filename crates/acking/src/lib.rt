@@ -140,14 +140,15 @@ pub fn handle_incoming_sacks(a: Acks, clock: Nanos, sent: &mut [u64; 64], payloa
 {
     let mut b = a;
     let mut at: usize = 0;
-    while at < payload.len() {
-        match packet::block_at(payload, at) {
+    loop {
+        let next = blocks::read_from(payload, at);
+        let block = next.block;
+        match block {
             Block::Range { start, end } => {
                 b = ack_block(b, clock, sent, start, end);
-                at += 8;
+                at = next.at;
             }
             Block::End => return b,
         }
     }
-    b
 }
