@@ -1,5 +1,5 @@
-// The block reader in the Rust's handle_incoming_sacks: it keeps its payload and its place together. Its functions are thin: `next_at`,
-// which takes a plain slice and a number, does the work, and `read_from` is for callers that keep a place and no reader.
+// The block reader in the Rust's handle_incoming_sacks: it keeps its payload and its place together. `next_at`, on a plain slice and a
+// number, does the work. Functions that hold a reader are proved by hand, so they are thin, and `read_from` is for callers that hold none.
 ghost use mathlib.Core.Path.{_≡_};
 ghost use Rattle.blocks.specs.Reader.{readAt};
 use packet::Block;
