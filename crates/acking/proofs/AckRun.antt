@@ -3,11 +3,12 @@
 use Prim.Native.Nat.{ℕ, suc, _+_, _-_, _≤_, _<_, max, min}
 use native.Mathlib.Omega.{arith}
 use mathlib.Core.Path.{_≡_, refl, ap, sym, _∙_}
-use mathlib.Core.List.{List, []}
-use lib.ListN.{length}
+use mathlib.Core.List.{List}
 use Rattle.packet.specs.declared.sack.Block.the-variants.{Range, End}
-use Rattle.packet.specs.Blocks.{Span, blocks, blocksFrom, nextBlock}
-use Rattle.packet.proofs.Blocks.{range-first, end-none, blocks-end}
+use Rattle.packet.specs.Blocks.{Span, blocks, blocksFrom}
+use Rattle.blocks.specs.declared.Next.{Next}
+use Rattle.blocks.specs.Reader.{readAt}
+use Rattle.blocks.proofs.Reader.{read-first, read-none}
 use Rattle.rtt.specs.Estimate.{InRange}
 use Rattle.model.specs.Lists.{Bytes}
 use Rattle.model.specs.Stream as model
@@ -116,31 +117,25 @@ module _ {clock : ℕ} {payload : Bytes} {a₀ : Acks} {sent₀ : List ℕ} {a :
       let acked = g .same .acked in
       omega arith
 
-  pub sack-turn : {start end : ℕ} → nextBlock (blocksFrom payload at) ≡ Range start end → {r : Acks} {sent′ : List ℕ} → AcksRun clock start end a sent r sent′
-      → Sacking clock payload a₀ sent₀ r sent′ (at + 8)
+  pub sack-turn : {n : Next} {start end : ℕ} → n ≡ readAt payload at → n .block ≡ Range start end
+      → {r : Acks} {sent′ : List ℕ} → AcksRun clock start end a sent r sent′ → Sacking clock payload a₀ sent₀ r sent′ (n .at)
   unfolding ackBlocks
-  sack-turn {start} {end} is x =
+  sack-turn {n} read is x =
       record {
         same = same-trans (g .same) (x .same);
         range = x .range;
         goes-on = λ s l.
-            ap (ackBlocks clock (blocksFrom payload (at + 8))) (x .seen-after s l)
-            ∙ ap (λ (bs : List Span). ackBlocks clock bs (seenOf a sent s l)) (sym (range-first payload at start end is))
+            ap (ackBlocks clock (blocksFrom payload (n .at))) (x .seen-after s l)
+            ∙ ap (λ (bs : List Span). ackBlocks clock bs (seenOf a sent s l)) (sym (read-first payload at read is))
             ∙ g .goes-on s l;
       }
 
-  -- no block is left
-  pub sack-over : blocksFrom payload at ≡ [] → AcksBlocks clock payload a₀ sent₀ a sent
+  pub sack-end : {n : Next} → n ≡ readAt payload at → n .block ≡ End → AcksBlocks clock payload a₀ sent₀ a sent
   unfolding ackBlocks
-  sack-over none =
+  sack-end read is =
       record {
-        seen-after = λ s l. ap (λ (bs : List Span). ackBlocks clock bs (seenOf a sent s l)) (sym none) ∙ g .goes-on s l;
+        seen-after = λ s l.
+            ap (λ (bs : List Span). ackBlocks clock bs (seenOf a sent s l)) (sym (read-none payload at read is)) ∙ g .goes-on s l;
         same = g .same;
         range = g .range;
       }
-
-  pub sack-end : nextBlock (blocksFrom payload at) ≡ End → AcksBlocks clock payload a₀ sent₀ a sent
-  sack-end is = sack-over (end-none payload at is)
-
-  pub sack-past : length payload ≤ at → AcksBlocks clock payload a₀ sent₀ a sent
-  sack-past h = sack-over (blocks-end payload at (omega arith))

@@ -1,7 +1,6 @@
 // Acknowledged packets leave the outgoing store: those of SACK blocks when they are delivered, the others when a drive settles them.
 ghost use mathlib.Core.Path.{_≡_};
 ghost use Prim.Native.Nat.{_+_, _≤_, _<_, _^_};
-ghost use lib.ListN.{length};
 ghost use Rattle.rtt.specs.Estimate.{InRange};
 ghost use Rattle.acking.specs.Acked.{leftSender, measuredRtt, ackedTotals, Measures, Timed, InWindow, AcksOne};
 ghost use Rattle.acking.specs.Sacks.{RunInWindow, AcksRun, AcksBlocks};
@@ -114,19 +113,20 @@ fn ack_block(a: Acks, clock: Nanos, sent: &mut [u64; 64], start: u32, end: u32) 
 
 // Every block of a payload.
 pub fn handle_incoming_sacks(a: Acks, clock: Nanos, sent: &mut [u64; 64], payload: &[u8]) -> Acks
-    requires { ⌜ Timed a (clock .0) × (a .sender .seq ≤ a .sender .«remote_acked» + 32) × (length (now payload) ≤ 1_380) ⌝ }
+    requires { ⌜ Timed a (clock .0) × (a .sender .seq ≤ a .sender .«remote_acked» + 32) ⌝ }
     ensures { λ r. ⌜ AcksBlocks (clock .0) (now (payload .entry)) a (now (sent .entry)) r (now (sent .exit)) ⌝ }
 {
     let mut b = a;
     let mut at: usize = 0;
-    while at < payload.len() {
-        match packet::block_at(payload, at) {
+    loop {
+        let next = blocks::read_from(payload, at);
+        let block = next.block;
+        match block {
             Block::Range { start, end } => {
                 b = ack_block(b, clock, sent, start, end);
-                at += 8;
+                at = next.at;
             }
             Block::End => return b,
         }
     }
-    b
 }

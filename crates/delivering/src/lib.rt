@@ -1,5 +1,4 @@
 // A delivered datagram that no refusal stops: count, SACK blocks, END, DATA, window (handle_incoming).
-ghost use Prim.Native.Nat.{_≤_};
 ghost use lib.ListN.{length};
 ghost use Rattle.closing.specs.State.{Pushable};
 ghost use Rattle.handling.specs.Steps.{Measured};
@@ -27,7 +26,7 @@ fn before_data(
     headers: &mut [u8],
     payload: &[u8],
 ) -> Delivered
-    requires { ⌜ Measured s (clock .0) × (length (now payload) ≤ 1_380) × Pushable (s .queue) (length (now headers)) ⌝ }
+    requires { ⌜ Measured s (clock .0) × Pushable (s .queue) (length (now headers)) ⌝ }
     ensures { λ r. ⌜ Began s t (clock .0) h (now (payload .entry)) (now (sent .entry)) (now (queue .entry)) (now (headers .entry)) r (now (sent .exit)) (now (queue .exit)) (now (headers .exit)) ⌝ }
 {
     let counted = counted_received(t);

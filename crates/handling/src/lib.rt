@@ -1,5 +1,4 @@
 // What a datagram does by its types, one part each: SACK blocks, END, DATA (handle_incoming).
-ghost use Prim.Native.Nat.{_≤_};
 ghost use lib.ListN.{length};
 ghost use Rattle.closing.specs.State.{Pushable};
 ghost use Rattle.handling.specs.Steps.{Measured, Sacked, Ended, TakesData, Took};
@@ -27,7 +26,7 @@ pub fn on_sack(
     sent: &mut [u64; 64],
     payload: &[u8],
 ) -> Delivered
-    requires { ⌜ Measured s (clock .0) × (length (now payload) ≤ 1_380) ⌝ }
+    requires { ⌜ Measured s (clock .0) ⌝ }
     ensures { λ r. ⌜ Sacked s t (clock .0) h (now (payload .entry)) (now (sent .entry)) r (now (sent .exit)) ⌝ }
 {
     let mut stream = s;

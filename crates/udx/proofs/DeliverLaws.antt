@@ -215,7 +215,6 @@ module _ (s : Stream) (t : Totals) (l : Lent) (len : length (l .queue) ≡ 128) 
               let states = leb-false 62 (s .queue .states) (tests .3) in
               rw part (record {
                 measured = record { range = k .estimate; early = early-clock s t l len clock b v is says clear; width = k .seq-near };
-                short = payload-short;
                 whole = whole .headers;
                 rest = rest;
                 queued = omega (arith, r .queued, r .near);

@@ -1,10 +1,10 @@
 -- `acking::handle_incoming_sacks` meets its contract. The loop's invariant is `Sacking`; the bytes that are left fall. Assumes nothing.
 use Prim.Native.Nat.{_-_}
 use native.Mathlib.Omega.{arith}
-use mathlib.Core.Path.{sym, _∙_}
 use lib.ListN.{length}
 use borrow.Author.Needs.{needs}
-use Rattle.acking.proofs.AckRun.{Sacking, sack-starts, sack-width, sack-turn, sack-end, sack-past}
+use Rattle.blocks.proofs.Reader.{read-on}
+use Rattle.acking.proofs.AckRun.{Sacking, sack-starts, sack-width, sack-turn, sack-end}
 use Rattle.acking.proofs.handle_incoming_sacks.Statement.{statement}
 use Rattle.acking.proofs.handle_incoming_sacks.Tie as tie
 
@@ -17,35 +17,31 @@ abbrev μ-loop : tie.MeasureT-loop
 loop-holds : tie.Need-loop-holds Inv-loop μ-loop
 loop-holds c = sack-starts _ _ _ _ (c .before .pre .0 .range)
 
-enum-known-start : tie.Need-enum-known-start Inv-loop μ-loop
-enum-known-start c = search needs
+enum-known-block : tie.Need-enum-known-block Inv-loop μ-loop
+enum-known-block c = search needs
 
 ack-block-requires : tie.Need-ack-block-requires Inv-loop μ-loop
 ack-block-requires c κs =
-    let b = c .before .before .before .before .before .before in
+    let b = c .before .before .before .before .before in
     let s = b .before .before in
     (record { range = b .loop .inv .range; early = s .pre .0 .early }, sack-width (b .loop .inv) (s .pre .1))
 
-add-at : tie.Need-add-at Inv-loop μ-loop
-add-at c =
+loop-less : tie.Need-loop-less Inv-loop μ-loop
+loop-less c =
     let b = c .before .before .before .before .before in
-    let short = b .before .before .before .before .pre .2 in
-    let inside = b .before .loop-test .taken in
-    omega arith
+    let s = b .before .before .before in
+    omega (arith, read-on (s .args .payload .now) (b .before .loop .at) (b .read-from .ensures) (c .before .before .before .block .given .1))
 
 loop-again : tie.Need-loop-again Inv-loop μ-loop
 loop-again c =
     let b = c .before .before .before .before .before in
-    sack-turn (b .before .before .loop .inv) (sym (b .block-at .ensures) ∙ c .before .before .before .start .given .1) (c .ack-block .ensures)
+    sack-turn (b .before .loop .inv) (b .read-from .ensures) (c .before .before .before .block .given .1) (c .ack-block .ensures)
 
 enum-told : tie.Need-enum-told Inv-loop μ-loop
 enum-told c = search needs
 
 returns : tie.Need-returns Inv-loop μ-loop
-returns c = sack-end (c .before .before .before .before .loop .inv) (sym (c .before .before .block-at .ensures) ∙ c .enum-told .given .1)
-
-returns-2 : tie.Need-returns-2 Inv-loop μ-loop
-returns-2 c = sack-past (c .before .loop .inv) (c .loop-test .left)
+returns c = sack-end (c .before .before .before .loop .inv) (c .before .before .read-from .ensures) (c .enum-told .given .1)
 
 pub handle-incoming-sacks-spec : {M : Type 1} → statement M
 handle-incoming-sacks-spec =
@@ -55,11 +51,9 @@ handle-incoming-sacks-spec =
     μ-loop
     loop-holds
     (λ c κs. search needs)
-    enum-known-start
+    enum-known-block
     ack-block-requires
-    add-at
-    (λ c. search needs)
+    loop-less
     loop-again
     enum-told
-    returns
-    returns-2)
+    returns)

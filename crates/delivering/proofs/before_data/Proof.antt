@@ -14,14 +14,14 @@ clocked-requires c κs = search needs
 on-sack-requires : tie.Need-on-sack-requires
 on-sack-requires c κs =
     let p = c .before .before .before .before .before .pre in
-    (rw (c .before .clocked .ensures) (record { range = p .0 .range; early = p .0 .early; width = p .0 .width }), p .1)
+    rw (c .before .clocked .ensures) (record { range = p .0 .range; early = p .0 .early; width = p .0 .width })
 
 on-end-requires : tie.Need-on-end-requires
 on-end-requires c κs =
     let b = c .before .before .before .before in
     let a = b .before .before .before .before .before .before in
     let x = rw (b .before .before .clocked .ensures, b .before .before .before .counted-received .ensures) at (b .on-sack .ensures) in
-    rw (queue-same (a .args .s) (a .args .t) (a .args .clock .0) x) (a .pre .2)
+    rw (queue-same (a .args .s) (a .args .t) (a .args .clock .0) x) (a .pre .1)
 
 same-length : tie.Need-same-length
 same-length c = search needs

@@ -11,7 +11,7 @@ is-sack-requires c κs = search needs
 handle-incoming-sacks-requires : tie.Need-handle-incoming-sacks-requires
 handle-incoming-sacks-requires c κs =
     let p = c .before .before .before .before .before .before .before .before .pre in
-    (record { range = p .0 .range; early = p .0 .early }, p .0 .width, p .1)
+    (record { range = p .range; early = p .early }, p .width)
 
 returns : tie.Need-returns
 returns c =
