@@ -1,7 +1,7 @@
 -- The commands of a session script. Assumes nothing.
 use Prim.Native.Nat.{ℕ, _+_, _*_, _<_, _≤_}
 use mathlib.Core.Path.{_≡_}
-use mathlib.Core.Bool.{Bool, true, false}
+use mathlib.Core.Bool.{cond}
 use mathlib.Core.List.{List}
 use lib.ListN.{length, getD}
 use lib.Dec.{eqb, leb, ltb}
@@ -11,19 +11,15 @@ use Rattle.script.specs.declared.Command.{Command}
 use Rattle.script.specs.declared.Command.the-variants.{Write, Drive, Take, Hand, Read, Close, Bad}
 use Rattle.script.specs.declared.Parsed.{Parsed}
 
-abbrev pub pickWidth : Bool → Width → Width → Width
-pickWidth true a b = a
-pickWidth false a b = b
-
 -- "One-byte commands, hexadecimal": how many bytes of operands each has
 unfoldable pub widthOf : ℕ → Width
 widthOf c =
-    pickWidth (eqb c 1) (Known 4)
-    (pickWidth (eqb c 2) (Known 9)
-    (pickWidth (eqb c 3) (Known 1)
-    (pickWidth (eqb c 4) (Known 11)
-    (pickWidth (eqb c 5) (Known 3)
-    (pickWidth (eqb c 6) (Known 1)
+    cond (eqb c 1) (Known 4)
+    (cond (eqb c 2) (Known 9)
+    (cond (eqb c 3) (Known 1)
+    (cond (eqb c 4) (Known 11)
+    (cond (eqb c 5) (Known 3)
+    (cond (eqb c 6) (Known 1)
     Unknown)))))
 
 -- "operands little-endian": the numbers of two, four and eight bytes at a place, where a byte that is not there is 0
@@ -36,28 +32,20 @@ u32At s i = u16At s i + 65536 * u16At s (i + 2)
 abbrev pub u64At : List ℕ → ℕ → ℕ
 u64At s i = u32At s i + 4294967296 * u32At s (i + 4)
 
-abbrev pub pickCommand : Bool → Command → Command → Command
-pickCommand true a b = a
-pickCommand false a b = b
-
 -- "05 read: end, length (2, to 4,096)"
 abbrev pub readOf : ℕ → ℕ → Command
-readOf end n = pickCommand (ltb 4096 n) Bad (Read end n)
+readOf end n = cond (ltb 4096 n) Bad (Read end n)
 
 -- the command with byte c for an end, at the front of s, all of whose operands are there
 unfoldable pub operandsOf : ℕ → ℕ → List ℕ → Command
 operandsOf c end s =
-    pickCommand (eqb c 1) (Write end (u16At s 2) (getD s 4 0))
-    (pickCommand (eqb c 2) (Drive end (u64At s 2))
-    (pickCommand (eqb c 3) (Take end)
-    (pickCommand (eqb c 4) (Hand end (u16At s 2) (u64At s 4))
-    (pickCommand (eqb c 5) (readOf end (u16At s 2))
-    (pickCommand (eqb c 6) (Close end)
+    cond (eqb c 1) (Write end (u16At s 2) (getD s 4 0))
+    (cond (eqb c 2) (Drive end (u64At s 2))
+    (cond (eqb c 3) (Take end)
+    (cond (eqb c 4) (Hand end (u16At s 2) (u64At s 4))
+    (cond (eqb c 5) (readOf end (u16At s 2))
+    (cond (eqb c 6) (Close end)
     Bad)))))
-
-abbrev pub pickParsed : Bool → Parsed → Parsed → Parsed
-pickParsed true a b = a
-pickParsed false a b = b
 
 -- "ends the run"
 abbrev pub endsRun : List ℕ → Parsed
@@ -67,8 +55,8 @@ endsRun s = record { command = Bad; size = length s }
 abbrev pub parsedWith : Width → ℕ → ℕ → List ℕ → Parsed
 parsedWith Unknown c end s = endsRun s
 parsedWith (Known w) c end s =
-    pickParsed (leb (length s) w) (endsRun s)
-    (pickParsed (ltb 1 end) (endsRun s)
+    cond (leb (length s) w) (endsRun s)
+    (cond (ltb 1 end) (endsRun s)
     (record { command = operandsOf c end s; size = w + 1 }))
 
 -- the command at the front of what is left of a script
