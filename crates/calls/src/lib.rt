@@ -1,0 +1,6 @@
+// The calls with the totals lent.
+mod answer;
+mod closed;
+
+pub use answer::Answer;
+pub use closed::close;
