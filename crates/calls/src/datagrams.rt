@@ -22,7 +22,18 @@ pub fn deliver(
 ) -> Answer
     ensures { λ r. ⌜ Answers (model.deliver (now (datagram .entry)) (clock .0)) s (now (t .entry)) (lent (now (sent .entry)) (now (held .entry)) (now (queue .entry)) (now (outgoing .entry)) (now (incoming .entry)) (now (headers .entry))) (whole r (now (t .exit))) (lent (now (sent .exit)) (now (held .exit)) (now (queue .exit)) (now (outgoing .entry)) (now (incoming .exit)) (now (headers .exit))) ⌝ }
 {
-    let r = udx::deliver(s, *t, sent, held, queue, outgoing, incoming, headers, datagram, clock);
+    let r = udx::deliver(
+        s,
+        *t,
+        sent,
+        held,
+        queue,
+        outgoing,
+        incoming,
+        headers,
+        datagram,
+        clock,
+    );
     *t = r.totals;
     Answer {
         stream: r.stream,

@@ -15,6 +15,7 @@ use prog.Memory.{Memory}
 use prog.Routine.{Routine}
 use prog.Wp.{Heap, Calls, Loops, WpFn, Tables}
 use ghost.Atoms.{Atoms}
+use contract.Lifetimes.{Lfts, Shares}
 use contract.Monad.{Fun, fact}
 use contract.Running.{givenOf, tables, tablesOf}
 use types.Kit.{Given, Item, ‵, raw, given, some, later, _⊛_, mean, ⋆, _$_, _∵_, !, qed, by, cut, move, drop, use1, split, join, pick, learn, rewrite, fsplit, fsplit3, fjoin, fjoin3, feqL, feqI, suffices, show, check, frame, await, done}
@@ -46,7 +47,7 @@ use Rattle.rtt.specs.declared.nanos.Nanos.{Nanos}
 use Rattle.records.specs.declared.Stream.{Stream}
 use Rattle.records.specs.declared.Totals.{Totals}
 use Rattle.answers.specs.declared.step.Step.{Step}
-use Rattle.calls.proofs.Parts.{restate, locals, words, streamM, answerM, nanosM,  streamT, streamV, stream-vals, stream-tells, stream-makes, stream-ok, totalsT, totalsM, totalsV, totals-vals, totals-tells, totals-makes, totals-ok, nanosT, nanosV, nanos-vals, nanos-tells, nanos-makes, nanos-ok, stepT, stepM, step-ok, answerT, answer-makes, answer-ok, answerOf, apart, answer-val, fields, at-stream, at-totals, at-outcome, at-count, at-segment}
+use Rattle.calls.proofs.Parts.{restate, locals, words, streamM, answerM, nanosM, streamT, streamV, stream-vals, stream-tells, stream-makes, stream-ok, totalsT, totalsM, totalsV, totals-vals, totals-tells, totals-makes, totals-ok, nanosT, nanosV, nanos-vals, nanos-tells, nanos-makes, nanos-ok, stepT, stepM, step-ok, answerT, answer-makes, answer-ok, answerOf, apart, answer-val, fields, at-stream, at-totals, at-outcome, at-count, at-segment}
 use Rattle.udx.proofs.drive as core
 use Rattle.udx.proofs.drive.Symbol as core-def
 use Rattle.udx.proofs.drive.Symbol.{name as #core}
@@ -69,18 +70,37 @@ Last = Unit {0} × (Unit {0} × (List ℕ × (Unit {0} × (List ℕ × (Unit {0}
 
 module _ {M : Type 1} (𝓤 : URA M) (H : Heap 𝓤) (A : Atoms 𝓤) (W : Given 𝓤 H A) (at-mem : Memory → SProp 𝓤) (run : Routine → Fun 𝓤) (κ κ₁ κ₂ κ₃ κ₄ κ₅ κ₆ : Lft) (q q₁ q₂ q₃ q₄ q₅ q₆ : Share) (b o : ℕ) (γ : GName) (h : Totals) (s : Stream) (sent : RefT (List ℕ)) (held : RefT (List ℕ)) (queue : RefT (List ℕ)) (outgoing : RefT (List ℕ)) (incoming : RefT (List ℕ)) (headers : RefT (List ℕ)) (clock : Nanos)
     (is-s : Is streamT s (streamV s ∷ [])) (is-outgoing : Is (ShrSlice (named 4) κ₄ u8) outgoing (sliceVal (outgoing .ptr) (length (outgoing .now)) ∷ [])) (is-incoming : Is (ShrSlice (named 5) κ₅ u8) incoming (sliceVal (incoming .ptr) (length (incoming .now)) ∷ [])) (is-headers : Is (MutSlice (named 6) κ₆ u8) headers (sliceVal (headers .ptr) (length (headers .now)) ∷ [])) (is-clock : Is nanosT clock (nanosV clock ∷ [])) where
-  abbrev x : Args self.signature (κ, (κ₁, (κ₂, (κ₃, (κ₄, (κ₅, (κ₆, tt)))))))
+  -- the lifetimes and the shares of their tokens, here and at the callee; the arguments' machine values
+  abbrev lfts : Lfts 7
+  lfts = (κ, (κ₁, (κ₂, (κ₃, (κ₄, (κ₅, (κ₆, tt)))))))
+
+  abbrev lfts′ : Lfts 6
+  lfts′ = (κ₁, (κ₂, (κ₃, (κ₄, (κ₅, (κ₆, tt))))))
+
+  abbrev shares : Shares 7
+  shares = (q, (q₁, (q₂, (q₃, (q₄, (q₅, (q₆, tt)))))))
+
+  abbrev shares′ : Shares 6
+  shares′ = (q₁, (q₂, (q₃, (q₄, (q₅, (q₆, tt))))))
+
+  abbrev vals : List Val
+  vals = vptr b o ∷ streamV s ∷ vptr (sent .ptr .0) (sent .ptr .1) ∷ vptr (held .ptr .0) (held .ptr .1) ∷ vptr (queue .ptr .0) (queue .ptr .1) ∷ sliceVal (outgoing .ptr) (length (outgoing .now)) ∷ sliceVal (incoming .ptr) (length (incoming .now)) ∷ sliceVal (headers .ptr) (length (headers .now)) ∷ nanosV clock ∷ []
+
+  abbrev x : Args self.signature lfts
   x = (record { ptr = (b, o); name = γ; now = h }, (s, (sent, (held, (queue, (outgoing, (incoming, (headers, (clock, tt)))))))))
 
-  abbrev at : Vals self.signature (κ, (κ₁, (κ₂, (κ₃, (κ₄, (κ₅, (κ₆, tt)))))))
+  abbrev at : Vals self.signature lfts
   at = (vptr b o ∷ [], (streamV s ∷ [], (vptr (sent .ptr .0) (sent .ptr .1) ∷ [], (vptr (held .ptr .0) (held .ptr .1) ∷ [], (vptr (queue .ptr .0) (queue .ptr .1) ∷ [], (sliceVal (outgoing .ptr) (length (outgoing .now)) ∷ [], (sliceVal (incoming .ptr) (length (incoming .now)) ∷ [], (sliceVal (headers .ptr) (length (headers .now)) ∷ [], (nanosV clock ∷ [], tt)))))))))
 
   abbrev Post : Val → SProp 𝓤
-  Post = walkOf 𝓤 H A self.ended stayed (self.clauses 𝓤 H A at-mem run) .post (((κ, (κ₁, (κ₂, (κ₃, (κ₄, (κ₅, (κ₆, tt))))))), (q, (q₁, (q₂, (q₃, (q₄, (q₅, (q₆, tt))))))), tt, x, at), tt)
+  Post = walkOf 𝓤 H A self.ended stayed (self.clauses 𝓤 H A at-mem run) .post ((lfts, shares, tt, x, at), tt)
 
   -- at entry: the tokens and what is owned. Of it the totals' borrow is for the walk, and the rest is passed on
+  abbrev Toks : Item 𝓤
+  Toks = ‵ (flft κ₁ q₁) ⊛ ‵ (flft κ₂ q₂) ⊛ ‵ (flft κ₃ q₃) ⊛ ‵ (flft κ₄ q₄) ⊛ ‵ (flft κ₅ q₅) ⊛ ‵ (flft κ₆ q₆) ⊛ ‵ ftrue
+
   abbrev Tokens : Item 𝓤
-  Tokens = ‵ (flft κ q) ⊛ (‵ (flft κ₁ q₁) ⊛ ‵ (flft κ₂ q₂) ⊛ ‵ (flft κ₃ q₃) ⊛ ‵ (flft κ₄ q₄) ⊛ ‵ (flft κ₅ q₅) ⊛ ‵ (flft κ₆ q₆) ⊛ ‵ ftrue)
+  Tokens = ‵ (flft κ q) ⊛ Toks
 
   abbrev Owned : Item 𝓤
   Owned = ‵ (owns (MutRef (named 0) κ totalsT ∷ streamT ∷ MutRef (named 1) κ₁ (words 64) ∷ ShrRef (named 2) κ₂ (words 32) ∷ MutRef (named 3) κ₃ (words 128) ∷ ShrSlice (named 4) κ₄ u8 ∷ ShrSlice (named 5) κ₅ u8 ∷ MutSlice (named 6) κ₆ u8 ∷ nanosT ∷ []) x at)
@@ -95,18 +115,18 @@ module _ {M : Type 1} (𝓤 : URA M) (H : Heap 𝓤) (A : Atoms 𝓤) (W : Given
   Token = ‵ (flft κ q)
 
   abbrev Passed : Item 𝓤
-  Passed = (‵ (flft κ₁ q₁) ⊛ ‵ (flft κ₂ q₂) ⊛ ‵ (flft κ₃ q₃) ⊛ ‵ (flft κ₄ q₄) ⊛ ‵ (flft κ₅ q₅) ⊛ ‵ (flft κ₆ q₆) ⊛ ‵ ftrue) ⊛ ‵ ((MutRef (named 0) κ₁ (words 64)) .own sent (vptr (sent .ptr .0) (sent .ptr .1) ∷ [])) ⊛ ‵ ((ShrRef (named 1) κ₂ (words 32)) .own held (vptr (held .ptr .0) (held .ptr .1) ∷ [])) ⊛ ‵ ((MutRef (named 2) κ₃ (words 128)) .own queue (vptr (queue .ptr .0) (queue .ptr .1) ∷ [])) ⊛ ‵ ((ShrSlice (named 3) κ₄ u8) .own outgoing (sliceVal (outgoing .ptr) (length (outgoing .now)) ∷ [])) ⊛ ‵ ((ShrSlice (named 4) κ₅ u8) .own incoming (sliceVal (incoming .ptr) (length (incoming .now)) ∷ [])) ⊛ ‵ ((MutSlice (named 5) κ₆ u8) .own headers (sliceVal (headers .ptr) (length (headers .now)) ∷ []))
+  Passed = Toks ⊛ ‵ ((MutRef (named 0) κ₁ (words 64)) .own sent (vptr (sent .ptr .0) (sent .ptr .1) ∷ [])) ⊛ ‵ ((ShrRef (named 1) κ₂ (words 32)) .own held (vptr (held .ptr .0) (held .ptr .1) ∷ [])) ⊛ ‵ ((MutRef (named 2) κ₃ (words 128)) .own queue (vptr (queue .ptr .0) (queue .ptr .1) ∷ [])) ⊛ ‵ ((ShrSlice (named 3) κ₄ u8) .own outgoing (sliceVal (outgoing .ptr) (length (outgoing .now)) ∷ [])) ⊛ ‵ ((ShrSlice (named 4) κ₅ u8) .own incoming (sliceVal (incoming .ptr) (length (incoming .now)) ∷ [])) ⊛ ‵ ((MutSlice (named 5) κ₆ u8) .own headers (sliceVal (headers .ptr) (length (headers .now)) ∷ []))
 
   enters : ent 𝓤 (⋆ 𝓤 H A (Tokens ∷ Owned ∷ [])) (⋆ 𝓤 H A (Seen ∷ Lent ∷ Token ∷ Passed ∷ []))
   enters = qed W (Tokens ∷ Owned ∷ []) ∵
       move ! (1 ∷ []) $ fsplit ! $ move ! (1 ∷ []) $ fsplit ! $ drop ! $ fsplit ! $ move ! (1 ∷ []) $ fsplit ! $ move ! (1 ∷ []) $ fsplit ! $ move ! (1 ∷ []) $ fsplit ! $ move ! (1 ∷ []) $ fsplit ! $ move ! (1 ∷ []) $ fsplit ! $ move ! (1 ∷ []) $ fsplit ! $ drop ! $ drop ! $ move ! (6 ∷ []) $ fsplit3 ! $ drop ! $ move ! (8 ∷ []) $ split ! $ move ! (2 ∷ 3 ∷ 0 ∷ 1 ∷ 9 ∷ 8 ∷ 7 ∷ 6 ∷ 5 ∷ 4 ∷ []) $ frame ! $ frame ! $ frame ! $ done !
 
   -- the call: what the callee is passed, what it asks, and what is known after it
-  abbrev passed : Args core.signature (κ₁, (κ₂, (κ₃, (κ₄, (κ₅, (κ₆, tt))))))
+  abbrev passed : Args core.signature lfts′
   passed = (s, (h, (sent, (held, (queue, (outgoing, (incoming, (headers, (clock, tt)))))))))
 
   abbrev to : Core 𝓤 H A at-mem run .Ghost
-  to = (((κ₁, (κ₂, (κ₃, (κ₄, (κ₅, (κ₆, tt)))))), (q₁, (q₂, (q₃, (q₄, (q₅, (q₆, tt)))))), tt, passed, (streamV s ∷ [], (totalsV h ∷ [], (vptr (sent .ptr .0) (sent .ptr .1) ∷ [], (vptr (held .ptr .0) (held .ptr .1) ∷ [], (vptr (queue .ptr .0) (queue .ptr .1) ∷ [], (sliceVal (outgoing .ptr) (length (outgoing .now)) ∷ [], (sliceVal (incoming .ptr) (length (incoming .now)) ∷ [], (sliceVal (headers .ptr) (length (headers .now)) ∷ [], (nanosV clock ∷ [], tt)))))))))), tt)
+  to = ((lfts′, shares′, tt, passed, (streamV s ∷ [], (totalsV h ∷ [], (vptr (sent .ptr .0) (sent .ptr .1) ∷ [], (vptr (held .ptr .0) (held .ptr .1) ∷ [], (vptr (queue .ptr .0) (queue .ptr .1) ∷ [], (sliceVal (outgoing .ptr) (length (outgoing .now)) ∷ [], (sliceVal (incoming .ptr) (length (incoming .now)) ∷ [], (sliceVal (headers .ptr) (length (headers .now)) ∷ [], (nanosV clock ∷ [], tt)))))))))), tt)
 
   asked : Is totalsT h (totalsV h ∷ []) → ent 𝓤 (mean 𝓤 H A Passed) (Core 𝓤 H A at-mem run .pre to)
   asked was = qed W (Passed ∷ []) ∵
@@ -122,27 +142,27 @@ module _ {M : Type 1} (𝓤 : URA M) (H : Heap 𝓤) (A : Atoms 𝓤) (W : Given
   Known u r zs = Is stepT r (u ∷ []) × (Said r zs × Lengths zs)
 
   abbrev Left : Last → Item 𝓤
-  Left zs = (‵ (flft κ₁ q₁) ⊛ ‵ (flft κ₂ q₂) ⊛ ‵ (flft κ₃ q₃) ⊛ ‵ (flft κ₄ q₄) ⊛ ‵ (flft κ₅ q₅) ⊛ ‵ (flft κ₆ q₆) ⊛ ‵ ftrue) ⊛ ‵ (fres (sent .name) (words 64 .coded .code (zs .1 .1 .0))) ⊛ ‵ (fres (queue .name) (words 128 .coded .code (zs .1 .1 .1 .1 .0))) ⊛ ‵ (finally u8 (headers .name) (zs .1 .1 .1 .1 .1 .1 .1 .0))
+  Left zs = Toks ⊛ ‵ (fres (sent .name) (words 64 .coded .code (zs .1 .1 .0))) ⊛ ‵ (fres (queue .name) (words 128 .coded .code (zs .1 .1 .1 .1 .0))) ⊛ ‵ (finally u8 (headers .name) (zs .1 .1 .1 .1 .1 .1 .1 .0))
 
   abbrev Back : Val → Step → Item 𝓤
-  Back u r = ((‵ (flft κ₁ q₁) ⊛ ‵ (flft κ₂ q₂) ⊛ ‵ (flft κ₃ q₃) ⊛ ‵ (flft κ₄ q₄) ⊛ ‵ (flft κ₅ q₅) ⊛ ‵ (flft κ₆ q₆) ⊛ ‵ ftrue) ⊛ ‵ (stepT .own r (u ∷ []))) ⊛ raw (ensured 𝓤 H A core.ended (core.clauses 𝓤 H A at-mem run) (κ₁, (κ₂, (κ₃, (κ₄, (κ₅, (κ₆, tt)))))) passed tt r)
+  Back u r = (Toks ⊛ ‵ (stepT .own r (u ∷ []))) ⊛ raw (ensured 𝓤 H A core.ended (core.clauses 𝓤 H A at-mem run) lfts′ passed tt r)
 
   told : (u : Val) (r : Step) → ent 𝓤 (mean 𝓤 H A (Back u r)) (mean 𝓤 H A (some (λ zs. given (Known u r zs) (Left zs))))
   told u r = qed W (Back u r ∷ []) ∵ split ! $
-      move ! (1 ∷ []) $ use1 W (some (λ (zs : Last). ‵ (lasts core.ended (κ₁, (κ₂, (κ₃, (κ₄, (κ₅, (κ₆, tt)))))) passed zs) ⊛ raw (fact 𝓤 (Said r zs)))) (id⊢ 𝓤 _) $ pick ! (λ zs. split ! $ move ! (1 ∷ []) $ heard ! (Said r zs) (λ e. fsplit ! $ drop ! $ fsplit ! $ drop ! $ fsplit ! $ move ! (1 ∷ []) $ fsplit ! $ drop ! $ fsplit ! $ move ! (1 ∷ []) $ fsplit ! $ drop ! $ fsplit ! $ drop ! $ fsplit ! $ fsplit ! $ move ! (1 ∷ []) $ feqL ! (λ l-headers. move ! (1 ∷ []) $ fsplit ! $ drop ! $ drop ! $ move ! (3 ∷ []) $ split ! $ move ! (1 ∷ []) $ peeks ! stepT (Is stepT) (shows 𝓤 H A stepT) r (u ∷ []) (λ is. drop ! $ show ! (λ (y : Last). mean 𝓤 H A (given (Known u r y) (Left y))) zs $ check ! (is, (e, l-headers)) $ move ! (0 ∷ 3 ∷ 2 ∷ 1 ∷ []) $ done !))))
+      move ! (1 ∷ []) $ use1 W (some (λ (zs : Last). ‵ (lasts core.ended lfts′ passed zs) ⊛ raw (fact 𝓤 (Said r zs)))) (id⊢ 𝓤 _) $ pick ! (λ zs. split ! $ move ! (1 ∷ []) $ heard ! (Said r zs) (λ e. fsplit ! $ drop ! $ fsplit ! $ drop ! $ fsplit ! $ move ! (1 ∷ []) $ fsplit ! $ drop ! $ fsplit ! $ move ! (1 ∷ []) $ fsplit ! $ drop ! $ fsplit ! $ drop ! $ fsplit ! $ fsplit ! $ move ! (1 ∷ []) $ feqL ! (λ l-headers. move ! (1 ∷ []) $ fsplit ! $ drop ! $ drop ! $ move ! (3 ∷ []) $ split ! $ move ! (1 ∷ []) $ peeks ! stepT (Is stepT) (shows 𝓤 H A stepT) r (u ∷ []) (λ is. drop ! $ show ! (λ (y : Last). mean 𝓤 H A (given (Known u r y) (Left y))) zs $ check ! (is, (e, l-headers)) $ move ! (0 ∷ 3 ∷ 2 ∷ 1 ∷ []) $ done !))))
 
   exits : (r : Step) (v : Val) → Is answerT (answerOf r) (v ∷ []) → (zs : Last) → Said r zs → Lengths zs
       → ent 𝓤 (⋆ 𝓤 H A (‵ (fobs γ (totalsT .coded .code (r .totals))) ∷ Lent ∷ Token ∷ Left zs ∷ [])) (Post v)
   exits r v made zs e l =
       qed W (‵ (fobs γ (totalsT .coded .code (r .totals))) ∷ Lent ∷ Token ∷ Left zs ∷ []) ∵
-      suffices ! _ (ends-at 𝓤 H A self.ended stayed (self.clauses 𝓤 H A at-mem run) W (((κ, (κ₁, (κ₂, (κ₃, (κ₄, (κ₅, (κ₆, tt))))))), (q, (q₁, (q₂, (q₃, (q₄, (q₅, (q₆, tt))))))), tt, x, at), tt) v (answerOf r) (r .totals, (tt, ((zs .1 .1 .0), (tt, ((zs .1 .1 .1 .1 .0), (tt, (tt, ((zs .1 .1 .1 .1 .1 .1 .1 .0), (tt, tt))))))))) (tt, (tt, (tt, (tt, (tt, (tt, (tt, (l, (tt, tt)))))))))) $ says ! e $
+      suffices ! _ (ends-at 𝓤 H A self.ended stayed (self.clauses 𝓤 H A at-mem run) W ((lfts, shares, tt, x, at), tt) v (answerOf r) (r .totals, (tt, ((zs .1 .1 .0), (tt, ((zs .1 .1 .1 .1 .0), (tt, (tt, ((zs .1 .1 .1 .1 .1 .1 .1 .0), (tt, tt))))))))) (tt, (tt, (tt, (tt, (tt, (tt, (tt, (l, (tt, tt)))))))))) $ says ! e $
       move ! (3 ∷ []) $ split ! $ move ! (1 ∷ []) $ split ! $ move ! (1 ∷ []) $ split ! $ move ! (6 ∷ 3 ∷ []) $ join ! $ frame ! $ move ! (3 ∷ 4 ∷ []) $ feqI ! (List Val) (vptr b o ∷ []) (vptr b o ∷ []) refl $ fjoin3 ! $
       nothing ! $ nothing ! $ fjoin ! $ move ! (3 ∷ 0 ∷ []) $ fjoin ! $ nothing ! $ fjoin ! $ nothing ! $ fjoin ! $ move ! (2 ∷ 0 ∷ []) $ fjoin ! $ nothing ! $ fjoin ! $ move ! (2 ∷ 0 ∷ []) $ fjoin ! $ nothing ! $ fjoin ! $ move ! (1 ∷ 0 ∷ []) $ fjoin ! $ owned ! answerT (Is answerT) (answer-makes 𝓤 H A) (answerOf r) _ made $ move ! (1 ∷ 0 ∷ []) $ done !
 
   module _ (C : Calls 𝓤 H) (Λ : Loops 𝓤 H) (fm : FmC 𝓤 H (W .laws) C) (known : Triple 𝓤 (C #core) (Core 𝓤 H A at-mem run)) where
-    walk : ent 𝓤 (onEntry 𝓤 H A self.signature (κ, (κ₁, (κ₂, (κ₃, (κ₄, (κ₅, (κ₆, tt))))))) (q, (q₁, (q₂, (q₃, (q₄, (q₅, (q₆, tt))))))) x at) (WpFn 𝓤 H C Λ code.function (vptr b o ∷ streamV s ∷ vptr (sent .ptr .0) (sent .ptr .1) ∷ vptr (held .ptr .0) (held .ptr .1) ∷ vptr (queue .ptr .0) (queue .ptr .1) ∷ sliceVal (outgoing .ptr) (length (outgoing .now)) ∷ sliceVal (incoming .ptr) (length (incoming .now)) ∷ sliceVal (headers .ptr) (length (headers .now)) ∷ nanosV clock ∷ []) Post)
+    walk : ent 𝓤 (onEntry 𝓤 H A self.signature lfts shares x at) (WpFn 𝓤 H C Λ code.function vals Post)
     walk =
-        qed W (Tokens ∷ Owned ∷ []) ∵ enter ! C Λ code.function (vptr b o ∷ streamV s ∷ vptr (sent .ptr .0) (sent .ptr .1) ∷ vptr (held .ptr .0) (held .ptr .1) ∷ vptr (queue .ptr .0) (queue .ptr .1) ∷ sliceVal (outgoing .ptr) (length (outgoing .now)) ∷ sliceVal (incoming .ptr) (length (incoming .now)) ∷ sliceVal (headers .ptr) (length (headers .now)) ∷ nanosV clock ∷ []) _ $
+        qed W (Tokens ∷ Owned ∷ []) ∵ enter ! C Λ code.function vals _ $
         locals ! (local answerM _ ∷ local _ _ ∷ local streamM _ ∷ local _ _ ∷ local _ _ ∷ local _ _ ∷ local _ _ ∷ local _ _ ∷ local _ _ ∷ local nanosM _ ∷ local stepM _ ∷ local totalsM _ ∷ local _ _ ∷ local _ _ ∷ local _ _ ∷ local _ _ ∷ []) $
         alloc1 ! (λ l₀. alloc1 ! (λ l₁. alloc1 ! (λ l₂. alloc1 ! (λ l₃. alloc1 ! (λ l₄. alloc1 ! (λ l₅. alloc1 ! (λ l₆. alloc1 ! (λ l₇. alloc1 ! (λ l₈. alloc1 ! (λ l₉. alloc1 ! (λ l₁₀. alloc1 ! (λ l₁₁. alloc1 ! (λ l₁₂. alloc1 ! (λ l₁₃. alloc1 ! (λ l₁₄. alloc1 ! (λ l₁₅. alloc0 ! $ params1 ! $
         pass1 ! (init ! 28 refl (tt, tt)) $ pass1 ! (init ! 26 refl (stream-ok W s _ is-s)) $ pass1 ! (init ! 24 refl (tt, tt)) $ pass1 ! (init ! 22 refl (tt, tt)) $ pass1 ! (init ! 20 refl (tt, tt)) $ pass1 ! (init ! 18 refl (shr-slice-lawful 𝓤 H A W (named 4) κ₄ u8 .typed outgoing _ is-outgoing .0)) $ pass1 ! (init ! 16 refl (shr-slice-lawful 𝓤 H A W (named 5) κ₅ u8 .typed incoming _ is-incoming .0)) $ pass1 ! (init ! 14 refl (mut-slice-lawful 𝓤 H A W (named 6) κ₆ u8 .typed headers _ is-headers .0)) $ pass1 ! (init ! 12 refl (nanos-ok W clock _ is-clock)) $ pass0 ! $
