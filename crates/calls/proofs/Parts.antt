@@ -49,6 +49,8 @@ locals t ls = step (λ s. s)
 abbrev pub words : ℕ → RattleType
 words n = Array u64 n
 
+-- of each record: its type (totalsT), its MIR type (totalsM), its machine value (totalsV, totals-vals, totals-tells), that it is owned for
+-- nothing (totals-makes), and that its machine value is of its type (totals-ok)
 abbrev pub totalsT : RattleType
 totalsT = D·Totals.the-row
 
