@@ -1,11 +1,26 @@
 // Enums and flags as bytes, and back.
+ghost use mathlib.Core.Path.{_≡_};
+ghost use mathlib.Core.Bool.{cond};
+ghost use Rattle.flat.specs.Bytes.{
+  errorByte,
+  errorOf,
+  stateByte,
+  stateOf,
+  isStrange,
+  endingOf,
+  flatEnding,
+  outcomeByte,
+  refusalByte,
+};
 use crate::structs::FlatEnding;
 use error::Outcome;
 use error::UdxError;
 use records::Ending;
 use records::StreamState;
 
-fn error_byte(error: UdxError) -> u8 {
+fn error_byte(error: UdxError) -> u8
+    ensures { λ r. ⌜ r ≡ errorByte error ⌝ }
+{
     match error {
         UdxError::None => 0,
         UdxError::ConnectionReset => 1,
@@ -14,7 +29,9 @@ fn error_byte(error: UdxError) -> u8 {
     }
 }
 
-fn error_of(byte: u8) -> UdxError {
+fn error_of(byte: u8) -> UdxError
+    ensures { λ r. ⌜ r ≡ errorOf byte ⌝ }
+{
     if byte == 0 {
         return UdxError::None;
     }
@@ -27,7 +44,9 @@ fn error_of(byte: u8) -> UdxError {
     UdxError::TimedOut
 }
 
-fn state_byte(state: StreamState) -> u8 {
+fn state_byte(state: StreamState) -> u8
+    ensures { λ r. ⌜ r ≡ stateByte state ⌝ }
+{
     match state {
         StreamState::Open => 0,
         StreamState::LocalClosed => 1,
@@ -36,7 +55,9 @@ fn state_byte(state: StreamState) -> u8 {
     }
 }
 
-fn state_of(byte: u8) -> StreamState {
+fn state_of(byte: u8) -> StreamState
+    ensures { λ r. ⌜ r ≡ stateOf byte ⌝ }
+{
     if byte == 0 {
         return StreamState::Open;
     }
@@ -49,12 +70,16 @@ fn state_of(byte: u8) -> StreamState {
     StreamState::BothClosed
 }
 
-fn flag_byte(flag: bool) -> u8 {
+fn flag_byte(flag: bool) -> u8
+    ensures { λ r. ⌜ r ≡ cond flag 1 0 ⌝ }
+{
     if flag { 1 } else { 0 }
 }
 
 // A byte that stands for nothing: C filled it with another value.
-pub fn strange(e: FlatEnding) -> bool {
+pub fn strange(e: FlatEnding) -> bool
+    ensures { λ r. ⌜ r ≡ isStrange e ⌝ }
+{
     if 3 < e.error {
         return true;
     }
@@ -64,7 +89,9 @@ pub fn strange(e: FlatEnding) -> bool {
     1 < e.ended
 }
 
-pub fn ending_of(e: FlatEnding) -> Ending {
+pub fn ending_of(e: FlatEnding) -> Ending
+    ensures { λ r. ⌜ r ≡ endingOf e ⌝ }
+{
     let error = error_of(e.error);
     let state = state_of(e.state);
     Ending {
@@ -74,7 +101,9 @@ pub fn ending_of(e: FlatEnding) -> Ending {
     }
 }
 
-pub fn flat_ending(e: Ending) -> FlatEnding {
+pub fn flat_ending(e: Ending) -> FlatEnding
+    ensures { λ r. ⌜ r ≡ flatEnding e ⌝ }
+{
     let error = e.error;
     let state = e.state;
     FlatEnding {
@@ -84,7 +113,9 @@ pub fn flat_ending(e: Ending) -> FlatEnding {
     }
 }
 
-pub fn outcome_byte(outcome: Outcome) -> u8 {
+pub fn outcome_byte(outcome: Outcome) -> u8
+    ensures { λ r. ⌜ r ≡ outcomeByte outcome ⌝ }
+{
     match outcome {
         Outcome::Ready => 0,
         Outcome::Waiting => 1,
@@ -95,7 +126,9 @@ pub fn outcome_byte(outcome: Outcome) -> u8 {
 }
 
 // The refusal's number, or 0.
-pub fn refusal_byte(outcome: Outcome) -> u8 {
+pub fn refusal_byte(outcome: Outcome) -> u8
+    ensures { λ r. ⌜ r ≡ refusalByte outcome ⌝ }
+{
     match outcome {
         Outcome::Ready => 0,
         Outcome::Waiting => 0,

@@ -1,4 +1,18 @@
 // Records and steps as C's numbers.
+ghost use mathlib.Core.Path.{_≡_};
+ghost use Rattle.flat.specs.Flat.{
+  flatIds,
+  flatSender,
+  flatReceiver,
+  flatQueue,
+  flatTiming,
+  flatClocks,
+  flatStream,
+  flatTotals,
+  flatStep,
+  flatOpened,
+  brokenStep,
+};
 use crate::ending::flat_ending;
 use crate::ending::outcome_byte;
 use crate::ending::refusal_byte;
@@ -23,7 +37,9 @@ use records::Stream;
 use records::Timing;
 use records::Totals;
 
-fn flat_ids(g: Ids) -> FlatIds {
+fn flat_ids(g: Ids) -> FlatIds
+    ensures { λ r. ⌜ r ≡ flatIds g ⌝ }
+{
     FlatIds {
         local: g.local,
         remote: g.remote,
@@ -31,7 +47,9 @@ fn flat_ids(g: Ids) -> FlatIds {
     }
 }
 
-fn flat_sender(g: Sender) -> FlatSender {
+fn flat_sender(g: Sender) -> FlatSender
+    ensures { λ r. ⌜ r ≡ flatSender g ⌝ }
+{
     FlatSender {
         seq: g.seq,
         remote_acked: g.remote_acked,
@@ -41,7 +59,9 @@ fn flat_sender(g: Sender) -> FlatSender {
     }
 }
 
-fn flat_receiver(g: Receiver) -> FlatReceiver {
+fn flat_receiver(g: Receiver) -> FlatReceiver
+    ensures { λ r. ⌜ r ≡ flatReceiver g ⌝ }
+{
     FlatReceiver {
         ack: g.ack,
         read_cursor: g.read_cursor,
@@ -49,7 +69,9 @@ fn flat_receiver(g: Receiver) -> FlatReceiver {
     }
 }
 
-fn flat_queue(g: Queue) -> FlatQueue {
+fn flat_queue(g: Queue) -> FlatQueue
+    ensures { λ r. ⌜ r ≡ flatQueue g ⌝ }
+{
     FlatQueue {
         count: g.count,
         left: g.left,
@@ -58,7 +80,9 @@ fn flat_queue(g: Queue) -> FlatQueue {
     }
 }
 
-fn flat_timing(g: Timing) -> FlatTiming {
+fn flat_timing(g: Timing) -> FlatTiming
+    ensures { λ r. ⌜ r ≡ flatTiming g ⌝ }
+{
     let rtt = g.rtt;
     let deadline = g.deadline;
     FlatTiming {
@@ -69,14 +93,18 @@ fn flat_timing(g: Timing) -> FlatTiming {
     }
 }
 
-fn flat_clocks(g: Clocks) -> FlatClocks {
+fn flat_clocks(g: Clocks) -> FlatClocks
+    ensures { λ r. ⌜ r ≡ flatClocks g ⌝ }
+{
     FlatClocks {
         last: g.last.0,
         drive: g.drive.0,
     }
 }
 
-pub fn flat_stream(s: Stream) -> FlatStream {
+pub fn flat_stream(s: Stream) -> FlatStream
+    ensures { λ r. ⌜ r ≡ flatStream s ⌝ }
+{
     FlatStream {
         ids: flat_ids(s.ids),
         sender: flat_sender(s.sender),
@@ -88,7 +116,9 @@ pub fn flat_stream(s: Stream) -> FlatStream {
     }
 }
 
-pub fn flat_totals(t: Totals) -> FlatTotals {
+pub fn flat_totals(t: Totals) -> FlatTotals
+    ensures { λ r. ⌜ r ≡ flatTotals t ⌝ }
+{
     FlatTotals {
         tx_packets: t.tx_packets,
         tx_bytes: t.tx_bytes,
@@ -99,24 +129,28 @@ pub fn flat_totals(t: Totals) -> FlatTotals {
     }
 }
 
-pub fn flat_step(r: Step) -> FlatStep {
-    let stream = flat_stream(r.stream);
-    let totals = flat_totals(r.totals);
-    let outcome = r.outcome;
+pub fn flat_step(a: Step) -> FlatStep
+    ensures { λ r. ⌜ r ≡ flatStep a ⌝ }
+{
+    let stream = flat_stream(a.stream);
+    let totals = flat_totals(a.totals);
+    let outcome = a.outcome;
     FlatStep {
         stream,
         totals,
-        count: r.count,
-        segment: r.segment,
+        count: a.count,
+        segment: a.segment,
         outcome: outcome_byte(outcome),
         refusal: refusal_byte(outcome),
     }
 }
 
-pub fn flat_opened(r: Opened) -> FlatStep {
-    let stream = flat_stream(r.stream);
-    let totals = flat_totals(r.totals);
-    let outcome = r.outcome;
+pub fn flat_opened(a: Opened) -> FlatStep
+    ensures { λ r. ⌜ r ≡ flatOpened a ⌝ }
+{
+    let stream = flat_stream(a.stream);
+    let totals = flat_totals(a.totals);
+    let outcome = a.outcome;
     FlatStep {
         stream,
         totals,
@@ -128,7 +162,9 @@ pub fn flat_opened(r: Opened) -> FlatStep {
 }
 
 // Refusal 1, with stream and totals as they came.
-pub fn broken_step(stream: FlatStream, totals: FlatTotals) -> FlatStep {
+pub fn broken_step(stream: FlatStream, totals: FlatTotals) -> FlatStep
+    ensures { λ r. ⌜ r ≡ brokenStep stream totals ⌝ }
+{
     FlatStep {
         stream,
         totals,

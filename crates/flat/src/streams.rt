@@ -1,4 +1,6 @@
 // The records that C's numbers stand for.
+ghost use mathlib.Core.Path.{_≡_};
+ghost use Rattle.flat.specs.Flat.{idsOf, senderOf, receiverOf, queueOf, timingOf, clocksOf, streamOf, totalsOf};
 use crate::ending::ending_of;
 use crate::structs::FlatClocks;
 use crate::structs::FlatIds;
@@ -20,7 +22,9 @@ use records::Totals;
 use rtt::Nanos;
 use rtt::Rtt;
 
-fn ids_of(f: FlatIds) -> Ids {
+fn ids_of(f: FlatIds) -> Ids
+    ensures { λ r. ⌜ r ≡ idsOf f ⌝ }
+{
     Ids {
         local: f.local,
         remote: f.remote,
@@ -28,7 +32,9 @@ fn ids_of(f: FlatIds) -> Ids {
     }
 }
 
-fn sender_of(f: FlatSender) -> Sender {
+fn sender_of(f: FlatSender) -> Sender
+    ensures { λ r. ⌜ r ≡ senderOf f ⌝ }
+{
     Sender {
         seq: f.seq,
         remote_acked: f.remote_acked,
@@ -38,7 +44,9 @@ fn sender_of(f: FlatSender) -> Sender {
     }
 }
 
-fn receiver_of(f: FlatReceiver) -> Receiver {
+fn receiver_of(f: FlatReceiver) -> Receiver
+    ensures { λ r. ⌜ r ≡ receiverOf f ⌝ }
+{
     Receiver {
         ack: f.ack,
         read_cursor: f.read_cursor,
@@ -46,7 +54,9 @@ fn receiver_of(f: FlatReceiver) -> Receiver {
     }
 }
 
-fn queue_of(f: FlatQueue) -> Queue {
+fn queue_of(f: FlatQueue) -> Queue
+    ensures { λ r. ⌜ r ≡ queueOf f ⌝ }
+{
     Queue {
         count: f.count,
         left: f.left,
@@ -55,7 +65,9 @@ fn queue_of(f: FlatQueue) -> Queue {
     }
 }
 
-fn timing_of(f: FlatTiming) -> Timing {
+fn timing_of(f: FlatTiming) -> Timing
+    ensures { λ r. ⌜ r ≡ timingOf f ⌝ }
+{
     let rtt = Rtt {
         srtt: Nanos(f.srtt),
         rttvar: Nanos(f.rttvar),
@@ -67,14 +79,18 @@ fn timing_of(f: FlatTiming) -> Timing {
     }
 }
 
-fn clocks_of(f: FlatClocks) -> Clocks {
+fn clocks_of(f: FlatClocks) -> Clocks
+    ensures { λ r. ⌜ r ≡ clocksOf f ⌝ }
+{
     Clocks {
         last: Nanos(f.last),
         drive: Nanos(f.drive),
     }
 }
 
-pub fn stream_of(f: FlatStream) -> Stream {
+pub fn stream_of(f: FlatStream) -> Stream
+    ensures { λ r. ⌜ r ≡ streamOf f ⌝ }
+{
     Stream {
         ids: ids_of(f.ids),
         sender: sender_of(f.sender),
@@ -86,7 +102,9 @@ pub fn stream_of(f: FlatStream) -> Stream {
     }
 }
 
-pub fn totals_of(f: FlatTotals) -> Totals {
+pub fn totals_of(f: FlatTotals) -> Totals
+    ensures { λ r. ⌜ r ≡ totalsOf f ⌝ }
+{
     Totals {
         tx_packets: f.tx_packets,
         tx_bytes: f.tx_bytes,

@@ -1,4 +1,7 @@
 // Header coding for C.
+ghost use mathlib.Core.Path.{_≡_};
+ghost use Rattle.packet.specs.Header.{decoded};
+ghost use Rattle.udx_c.specs.Coded.{FlatEncodes, flatDecoded};
 use flat::refusal_byte;
 use packet::Decoded;
 use packet::Header;
@@ -23,7 +26,9 @@ pub struct FlatDecoded {
 
 // 0, or the refusal's number.
 #[no_mangle]
-pub extern "C" fn udx_encode(header: FlatHeader, buf: &mut [u8]) -> u8 {
+pub extern "C" fn udx_encode(header: FlatHeader, buf: &mut [u8]) -> u8
+    ensures { λ r. ⌜ FlatEncodes header (now (buf .entry)) (now (buf .exit)) r ⌝ }
+{
     let h = Header {
         typ: header.typ,
         data_offset: header.data_offset,
@@ -36,7 +41,9 @@ pub extern "C" fn udx_encode(header: FlatHeader, buf: &mut [u8]) -> u8 {
 }
 
 #[no_mangle]
-pub extern "C" fn udx_decode(buf: &[u8]) -> FlatDecoded {
+pub extern "C" fn udx_decode(buf: &[u8]) -> FlatDecoded
+    ensures { λ r. ⌜ r ≡ flatDecoded (decoded (now (buf .entry))) ⌝ }
+{
     match Header::from_bytes(buf) {
         Decoded::Refused(why) => FlatDecoded {
             header: FlatHeader {

@@ -9,6 +9,8 @@ mod layout;
 mod lifecycle;
 mod transfer;
 
+pub use batches::FlatPart;
+pub use batches::udx_look;
 pub use batches::udx_take;
 pub use codec::FlatDecoded;
 pub use codec::FlatHeader;

@@ -1,4 +1,9 @@
 // Open, drive and close for C.
+ghost use Rattle.model.specs.Sending as model;
+ghost use Rattle.model.specs.Driving as driving;
+ghost use Rattle.broken_records.specs.Broken.{lent};
+ghost use Rattle.udx.specs.Agree.{Answers};
+ghost use Rattle.udx_c.specs.Crosses.{Crosses, FlatOpens};
 use flat::FlatStep;
 use flat::FlatStream;
 use flat::FlatTotals;
@@ -19,10 +24,12 @@ pub extern "C" fn udx_open(
     outgoing: &[u8],
     incoming: &[u8],
     headers: &[u8],
-) -> FlatStep {
+) -> FlatStep
+    ensures { λ r. ⌜ FlatOpens local remote segments clock (now (outgoing .entry)) (now (incoming .entry)) (now (headers .entry)) r ⌝ }
+{
     let c = Nanos(clock);
-    let r = udx::open(local, remote, segments, c, outgoing, incoming, headers);
-    flat_opened(r)
+    let a = udx::open(local, remote, segments, c, outgoing, incoming, headers);
+    flat_opened(a)
 }
 
 #[no_mangle]
@@ -36,7 +43,9 @@ pub extern "C" fn udx_drive(
     incoming: &[u8],
     headers: &mut [u8],
     clock: u64,
-) -> FlatStep {
+) -> FlatStep
+    ensures { λ r. ⌜ Crosses (Answers (driving.drive clock)) stream totals (lent (now (sent .entry)) (now (held .entry)) (now (queue .entry)) (now (outgoing .entry)) (now (incoming .entry)) (now (headers .entry))) r (lent (now (sent .exit)) (now (held .entry)) (now (queue .exit)) (now (outgoing .entry)) (now (incoming .entry)) (now (headers .exit))) ⌝ }
+{
     let ending = stream.ending;
     if strange(ending) {
         return broken_step(stream, totals);
@@ -58,7 +67,9 @@ pub extern "C" fn udx_close(
     outgoing: &[u8],
     incoming: &[u8],
     headers: &mut [u8],
-) -> FlatStep {
+) -> FlatStep
+    ensures { λ r. ⌜ Crosses (Answers model.close) stream totals (lent (now (sent .entry)) (now (held .entry)) (now (queue .entry)) (now (outgoing .entry)) (now (incoming .entry)) (now (headers .entry))) r (lent (now (sent .entry)) (now (held .entry)) (now (queue .exit)) (now (outgoing .entry)) (now (incoming .entry)) (now (headers .exit))) ⌝ }
+{
     let ending = stream.ending;
     if strange(ending) {
         return broken_step(stream, totals);

@@ -1,4 +1,13 @@
 // Write, deliver and read for C.
+ghost use mathlib.Core.Path.{_≡_};
+ghost use mathlib.Core.Bool.{true};
+ghost use Rattle.model.specs.Sending as model;
+ghost use Rattle.model.specs.Receiving as receiving;
+ghost use Rattle.broken_records.specs.Broken.{lent};
+ghost use Rattle.udx.specs.Agree.{Answers};
+ghost use Rattle.udx.specs.Read.{Gives};
+ghost use Rattle.flat.specs.Bytes.{isStrange};
+ghost use Rattle.udx_c.specs.Crosses.{Crosses};
 use flat::FlatStep;
 use flat::FlatStream;
 use flat::FlatTotals;
@@ -20,7 +29,9 @@ pub extern "C" fn udx_write(
     incoming: &[u8],
     headers: &[u8],
     bytes: &[u8],
-) -> FlatStep {
+) -> FlatStep
+    ensures { λ r. ⌜ Crosses (Answers (model.write (now (bytes .entry)))) stream totals (lent (now (sent .entry)) (now (held .entry)) (now (queue .entry)) (now (outgoing .entry)) (now (incoming .entry)) (now (headers .entry))) r (lent (now (sent .exit)) (now (held .entry)) (now (queue .exit)) (now (outgoing .exit)) (now (incoming .entry)) (now (headers .entry))) ⌝ }
+{
     let ending = stream.ending;
     if strange(ending) {
         return broken_step(stream, totals);
@@ -43,7 +54,9 @@ pub extern "C" fn udx_deliver(
     headers: &mut [u8],
     datagram: &[u8],
     clock: u64,
-) -> FlatStep {
+) -> FlatStep
+    ensures { λ r. ⌜ Crosses (Answers (receiving.deliver (now (datagram .entry)) clock)) stream totals (lent (now (sent .entry)) (now (held .entry)) (now (queue .entry)) (now (outgoing .entry)) (now (incoming .entry)) (now (headers .entry))) r (lent (now (sent .exit)) (now (held .exit)) (now (queue .exit)) (now (outgoing .entry)) (now (incoming .exit)) (now (headers .exit))) ⌝ }
+{
     let ending = stream.ending;
     if strange(ending) {
         return broken_step(stream, totals);
@@ -77,7 +90,9 @@ pub extern "C" fn udx_read(
     incoming: &[u8],
     headers: &[u8],
     buf: &mut [u8],
-) -> FlatStep {
+) -> FlatStep
+    ensures { λ r. ⌜ (Crosses (λ s t l x m. Gives s t l (now (buf .entry)) x m (now (buf .exit))) stream totals (lent (now (sent .entry)) (now (held .entry)) (now (queue .entry)) (now (outgoing .entry)) (now (incoming .entry)) (now (headers .entry))) r (lent (now (sent .entry)) (now (held .exit)) (now (queue .entry)) (now (outgoing .entry)) (now (incoming .entry)) (now (headers .entry)))) × (isStrange (stream .ending) ≡ true → now (buf .exit) ≡ now (buf .entry)) ⌝ }
+{
     let ending = stream.ending;
     if strange(ending) {
         return broken_step(stream, totals);
