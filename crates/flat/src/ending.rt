@@ -70,7 +70,7 @@ fn state_of(byte: u8) -> StreamState
     StreamState::BothClosed
 }
 
-fn flag_byte(flag: bool) -> u8
+pub fn flag_byte(flag: bool) -> u8
     ensures { λ r. ⌜ r ≡ cond flag 1 0 ⌝ }
 {
     if flag { 1 } else { 0 }

@@ -4,6 +4,7 @@ mod flatten;
 mod streams;
 mod structs;
 
+pub use ending::flag_byte;
 pub use ending::refusal_byte;
 pub use ending::strange;
 pub use flatten::broken_step;

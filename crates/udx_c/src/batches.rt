@@ -10,6 +10,7 @@ use flat::FlatStep;
 use flat::FlatStream;
 use flat::FlatTotals;
 use flat::broken_step;
+use flat::flag_byte;
 use flat::flat_step;
 use flat::strange;
 use flat::stream_of;
@@ -67,7 +68,7 @@ fn flat_part(p: Part) -> FlatPart
     FlatPart {
         start: p.start,
         length: p.length,
-        header: if p.header { 1 } else { 0 },
+        header: flag_byte(p.header),
     }
 }
 
