@@ -1,0 +1,123 @@
+// Look for a caller that cannot be handed a part of a slice: where in a lent store the next datagram stands. What stands there is what
+// `look` shows.
+ghost use mathlib.Core.Path.{_≡_};
+ghost use Rattle.records.specs.Seen.{QueueFormed};
+ghost use Rattle.taking.specs.Take.{Stored};
+ghost use Rattle.broken_records.specs.Broken.{lent};
+ghost use Rattle.udx.specs.Look.{shownOf};
+ghost use Rattle.places.specs.Place.{FindsPlace, partBytes, headerPart, packetPart, noPart};
+use batching::left_entry;
+use broken_records::broken;
+use constants::OUTGOING_SLOT;
+use constants::UDX_HEADER_SIZE;
+use records::Queue;
+use records::Sender;
+use records::Stream;
+use records::Totals;
+use records::word_count;
+use transmitting::there;
+
+// As taking's search finds it: at place `number` of the header store, or in the slot of packet `number`, with `length` bytes; 0 for none.
+pub struct Place {
+    pub state: bool,
+    pub number: u32,
+    pub length: u32,
+}
+
+// A part of a lent store.
+pub struct Part {
+    // Of the header store, else of the outgoing store.
+    pub header: bool,
+    pub start: usize,
+    // 0 where no datagram is left to take.
+    pub length: usize,
+}
+
+// The first entry left to take whose packet is there: the search of `taking`.
+fn next_place(q: Queue, s: Sender, sent: &[u64; 64], queue: &[u64; 128]) -> Place
+    requires { ⌜ QueueFormed q (now queue) × Stored s (now sent) 7 ⌝ }
+    ensures { λ r. ⌜ FindsPlace q s (now (sent .entry)) (now (queue .entry)) r ⌝ }
+{
+    word_count(queue);
+    let mut n: u32 = 0;
+    while n < q.left {
+        let x = left_entry(q, queue, n);
+        if x.state {
+            return Place {
+                state: true,
+                number: q.gone,
+                length: UDX_HEADER_SIZE as u32,
+            };
+        }
+        let p = records::get_sent(sent, x.number);
+        if there(s, p, x.number) {
+            return Place {
+                state: false,
+                number: x.number,
+                length: p.length,
+            };
+        }
+        n += 1;
+    }
+    Place {
+        state: false,
+        number: 0,
+        length: 0,
+    }
+}
+
+fn no_part() -> Part
+    ensures { λ r. ⌜ r ≡ noPart ⌝ }
+{
+    Part {
+        header: false,
+        start: 0,
+        length: 0,
+    }
+}
+
+// The state packet at a place of the header store.
+fn header_part(place: u32) -> Part
+    ensures { λ r. ⌜ r ≡ headerPart place ⌝ }
+{
+    Part {
+        header: true,
+        start: place as usize * UDX_HEADER_SIZE,
+        length: UDX_HEADER_SIZE,
+    }
+}
+
+// The first bytes of packet n's slot.
+fn packet_part(n: u32, length: u32) -> Part
+    ensures { λ r. ⌜ r ≡ packetPart n length ⌝ }
+{
+    Part {
+        header: false,
+        start: (n % 32) as usize * OUTGOING_SLOT,
+        length: length as usize,
+    }
+}
+
+pub fn look_place(
+    s: Stream,
+    t: Totals,
+    sent: &[u64; 64],
+    held: &[u64; 32],
+    queue: &[u64; 128],
+    outgoing: &[u8],
+    incoming: &[u8],
+    headers: &[u8],
+) -> Part
+    ensures { λ r. ⌜ partBytes r (now (outgoing .entry)) (now (headers .entry)) ≡ shownOf s t (lent (now (sent .entry)) (now (held .entry)) (now (queue .entry)) (now (outgoing .entry)) (now (incoming .entry)) (now (headers .entry))) ⌝ }
+{
+    if broken(s, t, sent, held, queue, outgoing, incoming, headers) {
+        return no_part();
+    }
+    let q = s.queue;
+    let sender = s.sender;
+    let x = next_place(q, sender, sent, queue);
+    if x.state {
+        return header_part(x.number);
+    }
+    packet_part(x.number, x.length)
+}

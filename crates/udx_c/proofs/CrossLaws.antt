@@ -1,0 +1,62 @@
+-- A call crosses the boundary in one of two ways: refused with 1 for a byte that stands for nothing, or made on the records that the
+-- numbers stand for. Assumes nothing.
+use mathlib.Core.Path.{_≡_, refl, ap, sym, _∙_}
+use mathlib.Core.Bool.{Bool, true, false, true≢false, cond}
+use lib.Dec.{eqb}
+use lib.ListN.{take, drop}
+use Rattle.model.specs.Lists.{Bytes}
+use Rattle.udx.specs.Look.{shownOf}
+use Rattle.places.specs.declared.Part.{Part}
+use Rattle.places.specs.Place.{partBytes}
+use Rattle.records.specs.declared.Stream.{Stream}
+use Rattle.records.specs.declared.Totals.{Totals}
+use Rattle.records.specs.Seen.{Lent}
+use Rattle.answers.specs.declared.step.Step.{Step}
+use Rattle.flat.specs.declared.structs.FlatStream.{FlatStream}
+use Rattle.flat.specs.declared.structs.FlatTotals.{FlatTotals}
+use Rattle.flat.specs.declared.structs.FlatStep.{FlatStep}
+use Rattle.flat.specs.Bytes.{isStrange}
+use Rattle.flat.specs.Flat.{streamOf, totalsOf, flatStep, brokenStep}
+use Rattle.udx_c.specs.declared.batches.FlatPart.{FlatPart}
+use Rattle.udx_c.specs.Crosses.{Crosses, Called}
+use Rattle.udx_c.specs.Shown.{noPart, flatPart, bytesOf, Looks}
+
+-- a test that came out both ways
+pub both : {A : Type 0} (b : Bool) → b ≡ true → b ≡ false → A
+both b t f = absurd (true≢false (sym t ∙ f))
+
+module _ (call : Stream → Totals → Lent → Step → Lent → Type 0) (s : FlatStream) (t : FlatTotals) (before : Lent) (r : FlatStep) where
+  pub refused-crosses : isStrange (s .ending) ≡ true → r ≡ brokenStep s t → Crosses call s t before r before
+  refused-crosses e a = record { known = λ n. both (isStrange (s .ending)) e n; strange = λ y. record { answer = a; lent = refl } }
+
+  pub called-crosses : (after : Lent) (x : Step) (stream : Stream) (totals : Totals) → isStrange (s .ending) ≡ false
+      → stream ≡ streamOf s → totals ≡ totalsOf t → call stream totals before x after → r ≡ flatStep x
+      → Crosses call s t before r after
+  called-crosses after x stream totals e hs ht does flat =
+      record {
+        known = λ y. record { step = x; does = rw (hs, ht) at does; flat = flat };
+        strange = λ y. both (isStrange (s .ending)) y e;
+      }
+
+-- look
+
+module _ (s : FlatStream) (t : FlatTotals) (l : Lent) (r : FlatPart) where
+  pub refused-looks : isStrange (s .ending) ≡ true → r ≡ noPart → Looks s t l r
+  refused-looks e a = record { known = λ n. both (isStrange (s .ending)) e n; strange = λ y. a }
+
+  -- a part that became numbers shows the same bytes
+  same-bytes : (p : Part) (outgoing headers : Bytes) → bytesOf (flatPart p) outgoing headers ≡ partBytes p outgoing headers
+  same-bytes p outgoing headers = go (p .header)
+    where
+      go : (b : Bool)
+          → take (p .length) (drop (p .start) (cond (eqb (cond b 1 0) 1) headers outgoing)) ≡ take (p .length) (drop (p .start) (cond b headers outgoing))
+      go true = refl
+      go false = refl
+
+  pub placed-looks : (p : Part) (stream : Stream) (totals : Totals) → isStrange (s .ending) ≡ false → stream ≡ streamOf s → totals ≡ totalsOf t
+      → partBytes p (l .outgoing) (l .headers) ≡ shownOf stream totals l → r ≡ flatPart p → Looks s t l r
+  placed-looks p stream totals e hs ht shows a =
+      record {
+        known = λ y. ap (λ (q : FlatPart). bytesOf q (l .outgoing) (l .headers)) a ∙ same-bytes p (l .outgoing) (l .headers) ∙ rw (hs, ht) at shows;
+        strange = λ y. both (isStrange (s .ending)) y e;
+      }

@@ -1,0 +1,96 @@
+// Take and look for C.
+ghost use mathlib.Core.Path.{_≡_};
+ghost use mathlib.Core.Bool.{true};
+ghost use Rattle.broken_records.specs.Broken.{lent};
+ghost use Rattle.udx.specs.Take.{Hands};
+ghost use Rattle.flat.specs.Bytes.{isStrange};
+ghost use Rattle.udx_c.specs.Shown.{flatPart, noPart, Looks};
+ghost use Rattle.udx_c.specs.Crosses.{Crosses};
+use flat::FlatStep;
+use flat::FlatStream;
+use flat::FlatTotals;
+use flat::broken_step;
+use flat::flag_byte;
+use flat::flat_step;
+use flat::strange;
+use flat::stream_of;
+use flat::totals_of;
+use places::Part;
+use places::look_place;
+
+#[no_mangle]
+pub extern "C" fn udx_take(
+    stream: FlatStream,
+    totals: FlatTotals,
+    sent: &mut [u64; 64],
+    held: &[u64; 32],
+    queue: &[u64; 128],
+    outgoing: &[u8],
+    incoming: &[u8],
+    headers: &[u8],
+    buf: &mut [u8],
+) -> FlatStep
+    ensures { λ r. ⌜ (Crosses (λ s t l x m. Hands s t l (now (buf .entry)) x m (now (buf .exit))) stream totals (lent (now (sent .entry)) (now (held .entry)) (now (queue .entry)) (now (outgoing .entry)) (now (incoming .entry)) (now (headers .entry))) r (lent (now (sent .exit)) (now (held .entry)) (now (queue .entry)) (now (outgoing .entry)) (now (incoming .entry)) (now (headers .entry)))) × (isStrange (stream .ending) ≡ true → now (buf .exit) ≡ now (buf .entry)) ⌝ }
+{
+    let ending = stream.ending;
+    if strange(ending) {
+        return broken_step(stream, totals);
+    }
+    let s = stream_of(stream);
+    let t = totals_of(totals);
+    let r = udx::take(s, t, sent, held, queue, outgoing, incoming, headers, buf);
+    flat_step(r)
+}
+
+// Where the next datagram stands. C cannot be handed a part of a slice, so it is a store, a start and a length.
+#[repr(C)]
+pub struct FlatPart {
+    pub start: usize,
+    // 0 where none is left to take, and in place of refusal 1.
+    pub length: usize,
+    // 1 for the header store, else 0 for the outgoing store.
+    pub header: u8,
+}
+
+fn no_part() -> FlatPart
+    ensures { λ r. ⌜ r ≡ noPart ⌝ }
+{
+    FlatPart {
+        start: 0,
+        length: 0,
+        header: 0,
+    }
+}
+
+fn flat_part(p: Part) -> FlatPart
+    ensures { λ r. ⌜ r ≡ flatPart p ⌝ }
+{
+    FlatPart {
+        start: p.start,
+        length: p.length,
+        header: flag_byte(p.header),
+    }
+}
+
+#[no_mangle]
+pub extern "C" fn udx_look(
+    stream: FlatStream,
+    totals: FlatTotals,
+    sent: &[u64; 64],
+    held: &[u64; 32],
+    queue: &[u64; 128],
+    outgoing: &[u8],
+    incoming: &[u8],
+    headers: &[u8],
+) -> FlatPart
+    ensures { λ r. ⌜ Looks stream totals (lent (now (sent .entry)) (now (held .entry)) (now (queue .entry)) (now (outgoing .entry)) (now (incoming .entry)) (now (headers .entry))) r ⌝ }
+{
+    let ending = stream.ending;
+    if strange(ending) {
+        return no_part();
+    }
+    let s = stream_of(stream);
+    let t = totals_of(totals);
+    let p = look_place(s, t, sent, held, queue, outgoing, incoming, headers);
+    flat_part(p)
+}

@@ -1,0 +1,161 @@
+// How the structs lie in memory, as this archive reads and writes them: a binding in any language can compare it with its own.
+use flat::FlatClocks;
+use flat::FlatEnding;
+use flat::FlatIds;
+use flat::FlatQueue;
+use flat::FlatReceiver;
+use flat::FlatSender;
+use flat::FlatStep;
+use flat::FlatStream;
+use flat::FlatTiming;
+use flat::FlatTotals;
+
+#[repr(C)]
+pub struct Numbers {
+    pub n: [u64; 24],
+}
+
+// The fields of a stream in their order, as they were received.
+#[no_mangle]
+pub extern "C" fn udx_layout_stream(s: FlatStream) -> Numbers {
+    let i = s.ids;
+    let a = s.sender;
+    let b = s.receiver;
+    let q = s.queue;
+    let t = s.timing;
+    let c = s.clocks;
+    let e = s.ending;
+    Numbers {
+        n: [
+            i.local as u64,
+            i.remote as u64,
+            i.segments as u64,
+            a.seq as u64,
+            a.remote_acked as u64,
+            a.largest_ack as u64,
+            a.inflight as u64,
+            a.cwnd as u64,
+            b.ack as u64,
+            b.read_cursor as u64,
+            b.top as u64,
+            q.count as u64,
+            q.left as u64,
+            q.states as u64,
+            q.gone as u64,
+            t.srtt,
+            t.rttvar,
+            t.rto,
+            t.deadline,
+            c.last,
+            c.drive,
+            e.error as u64,
+            e.state as u64,
+            e.ended as u64,
+        ],
+    }
+}
+
+// The same for totals, after a stream; the numbers past them are 0.
+#[no_mangle]
+pub extern "C" fn udx_layout_totals(s: FlatStream, t: FlatTotals) -> Numbers {
+    Numbers {
+        n: [
+            t.tx_packets,
+            t.tx_bytes,
+            t.rx_packets,
+            t.rx_bytes,
+            t.inflight_packets,
+            t.inflight_bytes,
+            0,
+            0,
+            0,
+            0,
+            0,
+            0,
+            0,
+            0,
+            0,
+            0,
+            0,
+            0,
+            0,
+            0,
+            0,
+            0,
+            0,
+            0,
+        ],
+    }
+}
+
+fn counted_stream() -> FlatStream {
+    let ids = FlatIds {
+        local: 1,
+        remote: 2,
+        segments: 3,
+    };
+    let sender = FlatSender {
+        seq: 4,
+        remote_acked: 5,
+        largest_ack: 6,
+        inflight: 7,
+        cwnd: 8,
+    };
+    let receiver = FlatReceiver {
+        ack: 9,
+        read_cursor: 10,
+        top: 11,
+    };
+    let queue = FlatQueue {
+        count: 12,
+        left: 13,
+        states: 14,
+        gone: 15,
+    };
+    let timing = FlatTiming {
+        srtt: 16,
+        rttvar: 17,
+        rto: 18,
+        deadline: 19,
+    };
+    let clocks = FlatClocks {
+        last: 20,
+        drive: 21,
+    };
+    let ending = FlatEnding {
+        error: 22,
+        state: 23,
+        ended: 24,
+    };
+    FlatStream {
+        ids,
+        sender,
+        receiver,
+        queue,
+        timing,
+        clocks,
+        ending,
+    }
+}
+
+// A step whose fields are 1, 2, 3 and so on in their order.
+#[no_mangle]
+pub extern "C" fn udx_layout_step() -> FlatStep {
+    let stream = counted_stream();
+    let totals = FlatTotals {
+        tx_packets: 25,
+        tx_bytes: 26,
+        rx_packets: 27,
+        rx_bytes: 28,
+        inflight_packets: 29,
+        inflight_bytes: 30,
+    };
+    FlatStep {
+        stream,
+        totals,
+        count: 31,
+        segment: 32,
+        outcome: 33,
+        refusal: 34,
+    }
+}
