@@ -141,101 +141,12 @@ static void headers(void) {
         }
 }
 
-/* 01's session: ends 0 (id 1) and 1 (id 2), and the last 32 datagrams that each has taken */
-
-static udx_end ends[2];
-static uint8_t batch[UDX_TAKE_ROOM];
-static uint8_t kept[2][32][UDX_MAX_DATAGRAM];
-static size_t kept_length[2][32], kept_count[2];
-
-static uint64_t operand(const uint8_t *p, int width) {
-    uint64_t v = 0;
-    while (width-- > 0)
-        v = v << 8 | p[width];
-    return v;
-}
-
-static void line(char *out, const char *command, int end, udx_answer a) {
-    static const char *const names[4] = {"ok", "wait", "done", "none"};
-    char outcome[8];
-    if (a.outcome < UDX_REFUSED)
-        strcpy(outcome, names[a.outcome]);
-    else
-        sprintf(outcome, "%d", a.refusal);
-    sprintf(out + strlen(out), "%s %d %s %u", command, end, outcome, (unsigned)a.count);
-}
-
-static void keep(int end, const uint8_t *datagram, size_t length) {
-    if (kept_count[end] == 32) {
-        memmove(kept[end][0], kept[end][1], sizeof kept[end] - sizeof kept[end][0]);
-        memmove(&kept_length[end][0], &kept_length[end][1], sizeof kept_length[end] - sizeof kept_length[end][0]);
-        kept_count[end]--;
-    }
-    memcpy(kept[end][kept_count[end]], datagram, length);
-    kept_length[end][kept_count[end]++] = length;
-}
-
-/* Well-formed scripts only. */
-static void session(const uint8_t *p, size_t length, char *out) {
-    static uint8_t bytes[65536];
-    udx_answer a;
-    udx_end_open(&ends[0], 1, 2, 10, 0);
-    udx_end_open(&ends[1], 2, 1, 10, 0);
-    kept_count[0] = kept_count[1] = 0;
-    for (size_t at = 0; at < length;) {
-        int end = p[at + 1];
-        udx_end *e = &ends[end];
-        switch (p[at]) {
-        case 1:
-            memset(bytes, p[at + 4], sizeof bytes);
-            line(out, "write", end, udx_end_write(e, bytes, (size_t)operand(p + at + 2, 2)));
-            at += 5;
-            break;
-        case 2:
-            line(out, "drive", end, udx_end_drive(e, operand(p + at + 2, 8)));
-            at += 10;
-            break;
-        case 3: {
-            size_t shown;
-            const uint8_t *next = udx_end_look(e, &shown);
-            uint8_t first[UDX_MAX_DATAGRAM];
-            memcpy(first, next, shown);
-            a = udx_end_take(e, batch, sizeof batch);
-            EXPECT((shown == 0) == (a.count == 0) && memcmp(first, batch, shown) == 0);
-            EXPECT(a.count == 0 || shown == (a.segment ? a.segment : a.count));
-            for (size_t i = 0; i < a.count; i += a.segment ? a.segment : a.count)
-                keep(end, batch + i, a.segment ? a.segment : a.count);
-            line(out, "take", end, a);
-            at += 2;
-            break;
-        }
-        case 4: {
-            size_t n = (size_t)operand(p + at + 2, 2);
-            line(out, "hand", end, udx_end_deliver(e, kept[1 - end][n], kept_length[1 - end][n], operand(p + at + 4, 8)));
-            at += 12;
-            break;
-        }
-        case 5:
-            a = udx_end_read(e, bytes, (size_t)operand(p + at + 2, 2));
-            line(out, "read", end, a);
-            strcat(out, a.count ? " " : " -");
-            for (size_t i = 0; i < a.count; i++)
-                sprintf(out + strlen(out), "%02x", bytes[i]);
-            at += 4;
-            break;
-        default:
-            line(out, "close", end, udx_end_close(e));
-            at += 2;
-        }
-        strcat(out, "\n");
-    }
-}
+#include "session.h"
 
 static void example(void) {
     static const uint8_t script[] = {1, 0, 3, 0, 0x41, 2, 0, 0, 0, 0, 0, 0, 0, 0, 0, 3, 0, 3, 0, 4, 1, 0, 0, 5, 0, 0, 0, 0, 0, 0, 0, 5, 1, 8, 0, 5, 1, 8, 0, 6, 1};
     static char out[4096];
-    out[0] = 0;
-    session(script, sizeof script, out);
+    session(script, sizeof script, out, sizeof out);
     EXPECT(strcmp(out, "write 0 ok 3\ndrive 0 ok 0\ntake 0 ok 23\ntake 0 none 0\nhand 1 ok 0\nread 1 ok 3 414141\nread 1 wait 0 -\nclose 1 ok 0\n") == 0);
     /* the same numbers as the C++ and the Rust side see them */
     EXPECT(ends[1].stream.ending.error == UDX_CONNECTION_RESET && ends[1].totals.rx_packets == 1 && ends[1].totals.rx_bytes == 3);
