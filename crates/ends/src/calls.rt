@@ -1,4 +1,10 @@
-// The calls on an end.
+// The calls on an end: those of udx on its records (specs/Calls.antt).
+ghost use mathlib.Core.Path.{_≡_};
+ghost use Rattle.model.specs.Sending as sending;
+ghost use Rattle.model.specs.Receiving as receiving;
+ghost use Rattle.model.specs.Driving as driving;
+ghost use Rattle.udx.specs.Look.{shownOf};
+ghost use Rattle.ends.specs.Calls.{stores, lentOf, steppedOf, Calls, Takes, Reads};
 use crate::End;
 use error::Outcome;
 use rtt::Nanos;
@@ -13,7 +19,9 @@ pub struct Called {
 }
 
 // An end after a step that left these words.
-fn stepped(e: End, step: Step, sent: [u64; 64], held: [u64; 32], queue: [u64; 128]) -> Called {
+fn stepped(e: End, step: Step, sent: [u64; 64], held: [u64; 32], queue: [u64; 128]) -> Called
+    ensures { λ r. ⌜ r ≡ steppedOf e step sent held queue ⌝ }
+{
     let stream = step.stream;
     let totals = step.totals;
     let kept = e.kept;
@@ -34,7 +42,9 @@ fn stepped(e: End, step: Step, sent: [u64; 64], held: [u64; 32], queue: [u64; 12
     }
 }
 
-pub fn write(e: End, bytes: &[u8], outgoing: &mut [u8], incoming: &[u8], headers: &[u8]) -> Called {
+pub fn write(e: End, bytes: &[u8], outgoing: &mut [u8], incoming: &[u8], headers: &[u8]) -> Called
+    ensures { λ r. ⌜ Calls (sending.write (now (bytes .entry))) e (stores (now (outgoing .entry)) (now (incoming .entry)) (now (headers .entry))) r (stores (now (outgoing .exit)) (now (incoming .entry)) (now (headers .entry))) ⌝ }
+{
     let mut sent = e.sent;
     let held = e.held;
     let mut queue = e.queue;
@@ -59,7 +69,9 @@ pub fn deliver(
     outgoing: &[u8],
     incoming: &mut [u8],
     headers: &mut [u8],
-) -> Called {
+) -> Called
+    ensures { λ r. ⌜ Calls (receiving.deliver (now (datagram .entry)) clock) e (stores (now (outgoing .entry)) (now (incoming .entry)) (now (headers .entry))) r (stores (now (outgoing .entry)) (now (incoming .exit)) (now (headers .exit))) ⌝ }
+{
     let mut sent = e.sent;
     let mut held = e.held;
     let mut queue = e.queue;
@@ -78,7 +90,9 @@ pub fn deliver(
     stepped(e, step, sent, held, queue)
 }
 
-pub fn drive(e: End, clock: u64, outgoing: &[u8], incoming: &[u8], headers: &mut [u8]) -> Called {
+pub fn drive(e: End, clock: u64, outgoing: &[u8], incoming: &[u8], headers: &mut [u8]) -> Called
+    ensures { λ r. ⌜ Calls (driving.drive clock) e (stores (now (outgoing .entry)) (now (incoming .entry)) (now (headers .entry))) r (stores (now (outgoing .entry)) (now (incoming .entry)) (now (headers .exit))) ⌝ }
+{
     let mut sent = e.sent;
     let held = e.held;
     let mut queue = e.queue;
@@ -96,7 +110,9 @@ pub fn drive(e: End, clock: u64, outgoing: &[u8], incoming: &[u8], headers: &mut
     stepped(e, step, sent, held, queue)
 }
 
-pub fn take(e: End, outgoing: &[u8], incoming: &[u8], headers: &[u8], buf: &mut [u8]) -> Called {
+pub fn take(e: End, outgoing: &[u8], incoming: &[u8], headers: &[u8], buf: &mut [u8]) -> Called
+    ensures { λ r. ⌜ Takes e (stores (now (outgoing .entry)) (now (incoming .entry)) (now (headers .entry))) (now (buf .entry)) r (now (buf .exit)) ⌝ }
+{
     let mut sent = e.sent;
     let held = e.held;
     let queue = e.queue;
@@ -114,7 +130,9 @@ pub fn take(e: End, outgoing: &[u8], incoming: &[u8], headers: &[u8], buf: &mut 
     stepped(e, step, sent, held, queue)
 }
 
-pub fn read(e: End, outgoing: &[u8], incoming: &[u8], headers: &[u8], buf: &mut [u8]) -> Called {
+pub fn read(e: End, outgoing: &[u8], incoming: &[u8], headers: &[u8], buf: &mut [u8]) -> Called
+    ensures { λ r. ⌜ Reads e (stores (now (outgoing .entry)) (now (incoming .entry)) (now (headers .entry))) (now (buf .entry)) r (now (buf .exit)) ⌝ }
+{
     let sent = e.sent;
     let mut held = e.held;
     let queue = e.queue;
@@ -132,7 +150,9 @@ pub fn read(e: End, outgoing: &[u8], incoming: &[u8], headers: &[u8], buf: &mut 
     stepped(e, step, sent, held, queue)
 }
 
-pub fn close(e: End, outgoing: &[u8], incoming: &[u8], headers: &mut [u8]) -> Called {
+pub fn close(e: End, outgoing: &[u8], incoming: &[u8], headers: &mut [u8]) -> Called
+    ensures { λ r. ⌜ Calls sending.close e (stores (now (outgoing .entry)) (now (incoming .entry)) (now (headers .entry))) r (stores (now (outgoing .entry)) (now (incoming .entry)) (now (headers .exit))) ⌝ }
+{
     let sent = e.sent;
     let held = e.held;
     let mut queue = e.queue;
@@ -149,7 +169,9 @@ pub fn close(e: End, outgoing: &[u8], incoming: &[u8], headers: &mut [u8]) -> Ca
     stepped(e, step, sent, held, queue)
 }
 
-pub fn look<'a>(e: End, outgoing: &'a [u8], incoming: &[u8], headers: &'a [u8]) -> &'a [u8] {
+pub fn look<'a>(e: End, outgoing: &'a [u8], incoming: &[u8], headers: &'a [u8]) -> &'a [u8]
+    ensures { λ r. ⌜ now r ≡ shownOf (e .stream) (e .totals) (lentOf e (stores (now (outgoing .entry)) (now (incoming .entry)) (now (headers .entry)))) ⌝ }
+{
     let sent = e.sent;
     let held = e.held;
     let queue = e.queue;

@@ -1,4 +1,6 @@
 // An end of a session: a stream with what the caller of its calls keeps. The stores are lent beside it.
+ghost use Rattle.ends.specs.Calls.{stores, Fresh};
+
 mod calls;
 
 pub use calls::Called;
@@ -24,7 +26,9 @@ pub struct End {
 }
 
 // "opened at clock 0 with ceiling 10"
-pub fn fresh_end(local: u32, remote: u32, outgoing: &[u8], incoming: &[u8], headers: &[u8]) -> End {
+pub fn fresh_end(local: u32, remote: u32, outgoing: &[u8], incoming: &[u8], headers: &[u8]) -> End
+    ensures { λ r. ⌜ Fresh local remote (stores (now (outgoing .entry)) (now (incoming .entry)) (now (headers .entry))) r ⌝ }
+{
     let o = udx::open(local, remote, 10, Nanos(0), outgoing, incoming, headers);
     let stream = o.stream;
     let totals = o.totals;
