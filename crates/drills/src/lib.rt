@@ -1,7 +1,7 @@
 // The drill's commands beside the session's: what they read, do and say stands in docs/DRILL.md.
+mod acts;
 mod breaking;
 mod coding;
-mod commands;
 mod lines;
 mod numbers;
 mod running;

@@ -2,9 +2,9 @@
 ghost use Prim.Native.Nat.{_<_, _≤_};
 ghost use lib.ListN.{length};
 ghost use Rattle.play.specs.Turned.{Turned};
+use crate::acts;
 use crate::coding;
 use crate::coding::Drill;
-use crate::commands;
 use crate::spoiling::SPARE_HEADERS;
 use crate::spoiling::SPARE_INCOMING;
 use crate::spoiling::SPARE_OUTGOING;
@@ -112,7 +112,7 @@ pub fn run_one(
     let one = ends.one;
     let end = end_of(drill);
     if end == 0 {
-        let a = commands::act(
+        let a = acts::act(
             zero,
             drill,
             s,
@@ -134,7 +134,7 @@ pub fn run_one(
         };
     }
     if end == 1 {
-        let a = commands::act(
+        let a = acts::act(
             one,
             drill,
             s,

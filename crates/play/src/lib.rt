@@ -1,6 +1,5 @@
 // The session of 01: one command of a script at a time, on one of two ends. A command's line is put into a lent buffer, for a program to
 // write or to compare.
-mod commands;
 mod running;
 
 pub use commands::Acted;

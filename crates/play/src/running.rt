@@ -2,15 +2,22 @@
 ghost use mathlib.Core.Path.{_≡_};
 ghost use Prim.Native.Nat.{_<_, _≤_};
 ghost use lib.ListN.{length};
-ghost use Rattle.play.specs.Turned.{Turned};
-use crate::commands;
-use crate::commands::SCRATCH;
+ghost use Rattle.kept.specs.Kept.{keptOf};
+ghost use Rattle.ends.specs.Calls.{stores};
+ghost use Rattle.text.specs.Put.{Wrote};
+ghost use Rattle.text.specs.Text.{scriptLineOf};
+ghost use Rattle.commands.specs.Acting.{hasDatagram};
+ghost use Rattle.commands.specs.Acts.{Laid};
+ghost use Rattle.play.specs.Session.{endOf, isFor, turn};
+ghost use Rattle.play.specs.Turned.{Turned, Parsed, lends, sidesOf, Plays};
+use commands::SCRATCH;
 use constants::HEADER_STORE;
 use constants::INCOMING_STORE;
 use constants::OUTGOING_STORE;
 use ends::End;
 use kept::KEPT_STORE;
 use kept::Kept;
+use picks::both;
 use script::Command;
 use text::LINE;
 
@@ -27,7 +34,9 @@ pub struct Turn {
 }
 
 // The end that a command is for, and 2 where it ends the run.
-fn end_of(command: Command) -> u8 {
+fn end_of(command: Command) -> u8
+    ensures { λ r. ⌜ r ≡ endOf command ⌝ }
+{
     match command {
         Command::Write {
             end,
@@ -48,15 +57,35 @@ fn end_of(command: Command) -> u8 {
 }
 
 // "or a datagram not kept"
-fn has_datagram(command: Command, theirs: Kept) -> bool {
+fn has_datagram(command: Command, theirs: Kept) -> bool
+    ensures { λ r. ⌜ ((store : _) → r ≡ hasDatagram command (keptOf theirs store)) ⌝ }
+{
     match command {
         Command::Hand {
             end: _,
             number,
             clock: _,
         } => kept::is_kept(theirs, number),
-        _ => true,
+        Command::Write {
+            end: _,
+            length: _,
+            fill: _,
+        } => true,
+        Command::Drive { end: _, clock: _ } => true,
+        Command::Take { end: _ } => true,
+        Command::Read { end: _, length: _ } => true,
+        Command::Close { end: _ } => true,
+        Command::Bad => true,
     }
+}
+
+// It is for this end, and can be run there.
+fn is_for(number: u8, command: Command, theirs: Kept) -> bool
+    ensures { λ r. ⌜ ((store : _) → r ≡ isFor number command (keptOf theirs store)) ⌝ }
+{
+    let same = end_of(command) == number;
+    let there = has_datagram(command, theirs);
+    both(same, there)
 }
 
 // The command at a place of a script, and where the next one starts.
@@ -67,7 +96,7 @@ struct Placed {
 
 fn command_at(script: &[u8], at: usize) -> Placed
     requires { ⌜ at < length (now script) ⌝ }
-    ensures { λ r. ⌜ (at < r .next) × (r .next ≤ length (now (script .entry))) ⌝ }
+    ensures { λ r. ⌜ Parsed (now (script .entry)) at r ⌝ }
 {
     let p = script::parse(&script[at..]);
     let command = p.command;
@@ -79,7 +108,7 @@ fn command_at(script: &[u8], at: usize) -> Placed
 
 // The run ends at the command at `at`.
 pub fn stop(ends: Ends, size: usize, at: usize, line: &mut [u8; LINE]) -> Turn
-    ensures { λ r. ⌜ (r .next ≡ size) × (r .len ≤ 8_400) ⌝ }
+    ensures { λ r. ⌜ (r .ends ≡ ends) × ((r .next ≡ size) × Wrote (now (line .entry)) (now (line .exit)) 0 (r .len) 28 (scriptLineOf at)) ⌝ }
 {
     let len = text::put_script_line(line, at as u64);
     Turn {
@@ -106,6 +135,7 @@ pub fn run_one(
     line: &mut [u8; LINE],
 ) -> Turn
     ensures { λ r. ⌜ Turned (length (now (script .entry))) at r ⌝ }
+    ensures { λ r. ⌜ (at < length (now (script .entry)) → Laid (ends .zero) (stores (now («outgoing_0» .entry)) (now («incoming_0» .entry)) (now («headers_0» .entry))) → Laid (ends .one) (stores (now («outgoing_1» .entry)) (now («incoming_1» .entry)) (now («headers_1» .entry))) → Plays (turn (now (script .entry)) at (sidesOf ends (lends (now («outgoing_0» .entry)) (now («incoming_0» .entry)) (now («headers_0» .entry)) (now («kept_0» .entry)) (now («outgoing_1» .entry)) (now («incoming_1» .entry)) (now («headers_1» .entry)) (now («kept_1» .entry))))) r (lends (now («outgoing_0» .exit)) (now («incoming_0» .exit)) (now («headers_0» .exit)) (now («kept_0» .exit)) (now («outgoing_1» .exit)) (now («incoming_1» .exit)) (now («headers_1» .exit)) (now («kept_1» .exit))) (now (line .exit))) ⌝ }
 {
     let size = script.len();
     if size <= at {
@@ -120,50 +150,45 @@ pub fn run_one(
     let next = p.next;
     let zero = ends.zero;
     let one = ends.one;
-    let end = end_of(command);
-    if end == 0 {
-        if has_datagram(command, one.kept) {
-            let a = commands::act(
-                zero,
-                one.kept,
-                command,
-                outgoing_0,
-                incoming_0,
-                headers_0,
-                kept_0,
-                kept_1,
-                scratch,
-                line,
-            );
-            let zero = a.end;
-            return Turn {
-                ends: Ends { zero, one },
-                next,
-                len: a.len,
-            };
-        }
+    if is_for(0, command, one.kept) {
+        let a = commands::act(
+            zero,
+            one.kept,
+            command,
+            outgoing_0,
+            incoming_0,
+            headers_0,
+            kept_0,
+            kept_1,
+            scratch,
+            line,
+        );
+        let zero = a.end;
+        return Turn {
+            ends: Ends { zero, one },
+            next,
+            len: a.len,
+        };
     }
-    if end == 1 {
-        if has_datagram(command, zero.kept) {
-            let a = commands::act(
-                one,
-                zero.kept,
-                command,
-                outgoing_1,
-                incoming_1,
-                headers_1,
-                kept_1,
-                kept_0,
-                scratch,
-                line,
-            );
-            let one = a.end;
-            return Turn {
-                ends: Ends { zero, one },
-                next,
-                len: a.len,
-            };
-        }
+    if is_for(1, command, zero.kept) {
+        let a = commands::act(
+            one,
+            zero.kept,
+            command,
+            outgoing_1,
+            incoming_1,
+            headers_1,
+            kept_1,
+            kept_0,
+            scratch,
+            line,
+        );
+        let one = a.end;
+        return Turn {
+            ends: Ends { zero, one },
+            next,
+            len: a.len,
+        };
     }
     stop(ends, size, at, line)
 }

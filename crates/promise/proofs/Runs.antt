@@ -57,14 +57,14 @@ drive-none clock e =
     by-gate (λ a. a .bytes ≡ []) (model-out.driveRefusal clock e) e _ (λ why. refl)
     (λ z. by-test (λ (a : Answer). a .bytes ≡ []) (model-out.drained e) _ _ (λ z. refl) (λ z. refl))
 
-take-counts : (room : ℕ) (e : End) → (model-out.take room e) .count ≡ length ((model-out.take room e) .bytes)
+pub take-counts : (room : ℕ) (e : End) → (model-out.take room e) .count ≡ length ((model-out.take room e) .bytes)
 unfolding model-out.take
 take-counts room e =
     let batch = model-out.takeAnswer (model-out.takeLoop (model-out.batch e) (e .queue .entries) e) e in
     by-gate (λ a. a .count ≡ length (a .bytes)) (model-out.takeRefusal room e) e (cond (ltb 0 (e .queue .left)) batch (answered Nothing e)) (λ why. refl)
     (λ z. by-test (λ (a : Answer). a .count ≡ length (a .bytes)) (ltb 0 (e .queue .left)) batch (answered Nothing e) (λ z. refl) (λ z. refl))
 
-read-counts : (room : ℕ) (e : End) → (model-in.read room e) .count ≡ length ((model-in.read room e) .bytes)
+pub read-counts : (room : ℕ) (e : End) → (model-in.read room e) .count ≡ length ((model-in.read room e) .bytes)
 unfolding model-in.read
 read-counts room e =
     by-gate (λ a. a .count ≡ length (a .bytes)) (model-in.readRefusal e) e (model-in.readAnswer (model-in.readNext room (e .receiver)) e) (λ why. refl) (λ z. refl)
@@ -72,7 +72,7 @@ read-counts room e =
 -- one call
 
 -- bytes that were put at the front are the first of the buffer
-front : (buf bytes : Bytes) → take (length bytes) (put buf 0 bytes) ≡ bytes
+pub front : (buf bytes : Bytes) → take (length bytes) (put buf 0 bytes) ≡ bytes
 unfolding put
 front buf bytes = take-append-seam bytes (drop (0 + length bytes) buf)
 
@@ -82,15 +82,15 @@ same-answer : (a : Answer) (r : Step) (after : Lent) (bytes : Bytes) → Agrees 
 same-answer a r after bytes g e = rw (g .outcome, g .count, e, g .segment, g .end) refl
 
 module _ (x : Records) (laid : laidOut (x .stream) (x .lent) ≡ true) where
-  on-laid : (call : End → Answer) → onRecords call (x .stream) (x .totals) (x .lent) ≡ call (seenOf x)
+  pub on-laid : (call : End → Answer) → onRecords call (x .stream) (x .totals) (x .lent) ≡ call (seenOf x)
   unfolding onRecords
   on-laid call = rw laid refl
 
-  agreed : (call : End → Answer) (r : Step) (after : Lent) → Agrees (onRecords call (x .stream) (x .totals) (x .lent)) r after → Agrees (call (seenOf x)) r after
+  pub agreed : (call : End → Answer) (r : Step) (after : Lent) → Agrees (onRecords call (x .stream) (x .totals) (x .lent)) r after → Agrees (call (seenOf x)) r after
   agreed call r after g = subst (λ (a : Answer). Agrees a r after) (on-laid call) g
 
   -- a buffer into which the bytes of this call were put
-  puts : (call : End → Answer) (buf buf′ : Bytes) (r : Step) (after : Lent) → Agrees (onRecords call (x .stream) (x .totals) (x .lent)) r after
+  pub puts : (call : End → Answer) (buf buf′ : Bytes) (r : Step) (after : Lent) → Agrees (onRecords call (x .stream) (x .totals) (x .lent)) r after
       → buf′ ≡ put buf 0 ((onRecords call (x .stream) (x .totals) (x .lent)) .bytes) → (call (seenOf x)) .count ≡ length ((call (seenOf x)) .bytes)
       → take (r .count) buf′ ≡ (call (seenOf x)) .bytes
   puts call buf buf′ r after g e n =

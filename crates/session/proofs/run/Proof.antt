@@ -16,7 +16,7 @@ abbrev μ-loop : tie.MeasureT-loop
 
 loop-less : tie.Need-loop-less Inv-loop μ-loop
 loop-less c =
-    let t = c .before .before .before .before .run-one .ensures in
+    let t = c .before .before .before .before .run-one .ensures .0 in
     omega (arith, t .on (c .before .before .before .before .before .before .before .before .before .before .before .before .before .before .before .loop-test .taken), t .within)
 
 pub run-spec : {M : Type 1} → statement M

@@ -1,30 +1,99 @@
--- `play::running::run_one` meets its contract: the next place is that of the command, and the line is that of the end it is for.
+use native.Mathlib.Omega.{arith}
+use mathlib.Core.Path.{sym, _∙_}
+use Rattle.kept.specs.Kept.{keptOf}
+use Rattle.play.proofs.TurnLaws.{has-datagram, reads-short, turn-zero, turn-one, turn-stops}
 use borrow.Author.Needs.{needs}
 use Rattle.play.proofs.running.run_one.Statement.{statement}
 use Rattle.play.proofs.running.run_one.Tie as tie
+use Rattle.play.proofs.running.run_one.Reads as reads
+use Rattle.play.proofs.running.run_one.Lts as lts
+use Rattle.commands.proofs.act.Reads as act-reads
+use Rattle.play.proofs.running.command_at.Reads as command-at-reads
+use Rattle.play.proofs.running.is_for.Reads as is-for-reads
+use Rattle.play.proofs.running.stop.Reads as stop-reads
 
+-- src/running.rt:133:9
+returns : tie.Need-returns
+returns c =
+    (record { on = λ inside. absurd (let t = c .if1 .taken in omega arith); within = omega arith; fits = omega arith }, λ inside zero one. absurd (let t = c .if1 .taken in omega arith))
+
+-- src/running.rt:139:9
+command-at-requires : tie.Need-command-at-requires
+command-at-requires c κs = search needs
+
+-- src/running.rt:144:8
+is-for-requires : tie.Need-is-for-requires
+is-for-requires c κs = search needs
+
+-- src/running.rt:145:13
+act-requires : tie.Need-act-requires
+act-requires c κs = search needs
+
+-- src/running.rt:158:9
 returns-2 : tie.Need-returns-2
 returns-2 c =
-    let p = c .before .before .before .before .before .before .before .before .before .before .before .before .before .before .before .command-at .ensures in
-    record { on = λ _. p .0; within = p .1; fits = c .before .act .ensures }
+    let k = c .before .before .before .before .before .before .before .before .before .before .before .before .before .command-at in
+    let p = k .ensures in
+    let g = c .before .before .before .before .before .before .before .before .before .before .before .before .before .before .before .before .args in
+    let theirs = keptOf (g .ends .one .kept) (g .kept-1 .now) in
+    let a = c .before .act .ensures in (
+      record { on = λ _. p .on; within = p .within; fits = a .0 },
+      λ inside zero one.
+          let is = sym (c .before .before .before .before .before .before .before .before .before .before .is-for .ensures _) ∙ c .before .before .before .before .before .before .before .before .before .if2 .taken in
+          turn-zero _ _ _ _ _ p _ _ _ _ _ is one (a .1 zero (has-datagram 0 (k .result .command) theirs is) (reads-short _ _ _ p)),
+    )
 
+-- src/running.rt:164:8
+is-for-requires-2 : tie.Need-is-for-requires-2
+is-for-requires-2 c κs = search needs
+
+-- src/running.rt:165:13
+act-requires-2 : tie.Need-act-requires-2
+act-requires-2 c κs = search needs
+
+-- src/running.rt:178:9
 returns-3 : tie.Need-returns-3
 returns-3 c =
-    let p = c .before .before .before .before .before .before .before .before .before .before .before .before .before .before .before .before .command-at .ensures in
-    record { on = λ _. p .0; within = p .1; fits = c .before .act2 .ensures }
+    let k = c .before .before .before .before .before .before .before .before .before .before .before .before .before .before .before .command-at in
+    let p = k .ensures in
+    let g = c .before .before .before .before .before .before .before .before .before .before .before .before .before .before .before .before .before .before .args in
+    let theirs = keptOf (g .ends .zero .kept) (g .kept-0 .now) in
+    let a = c .before .act2 .ensures in (
+      record { on = λ _. p .on; within = p .within; fits = a .0 },
+      λ inside zero one.
+          let no-zero = sym (c .before .before .before .before .before .before .before .before .before .before .before .before .is-for .ensures _) ∙ c .before .before .before .before .before .before .before .before .before .before .before .if2 .left in
+          let is = sym (c .before .before .before .before .before .before .before .before .before .before .is-for2 .ensures _) ∙ c .before .before .before .before .before .before .before .before .before .if3 .taken in
+          turn-one _ _ _ _ _ p _ _ _ _ _ no-zero is zero (a .1 one (has-datagram 1 (k .result .command) theirs is) (reads-short _ _ _ p)),
+    )
+
+-- src/running.rt:184:5
+stop-requires : tie.Need-stop-requires
+stop-requires c κs = search needs
+
+-- src/running.rt:113:1
+returns-4 : tie.Need-returns-4
+returns-4 c =
+    let p = c .before .before .before .before .before .before .before .before .command-at .ensures in
+    let (same, rest) = c .stop .ensures in
+    let (next, line) = rest in (
+      record { on = λ inside. omega (arith, next); within = omega (arith, next); fits = omega (arith, line .room) },
+      λ inside zero one.
+          let no-zero = sym (c .before .before .before .before .before .is-for .ensures _) ∙ c .before .before .before .before .if2 .left in
+          let no-one = sym (c .before .before .before .is-for2 .ensures _) ∙ c .before .before .if3 .left in
+          turn-stops _ _ _ _ _ p _ _ _ no-zero no-one zero one same next line,
+    )
 
 pub run-one-spec : {M : Type 1} → statement M
 run-one-spec =
     tie.close
     (tie.spec
-    (λ c. search needs)
-    (λ c κs. search needs)
-    (λ c κs. search needs)
-    (λ c κs. search needs)
-    (λ c κs. search needs)
+    returns
+    command-at-requires
+    is-for-requires
+    act-requires
     returns-2
-    (λ c κs. search needs)
-    (λ c κs. search needs)
+    is-for-requires-2
+    act-requires-2
     returns-3
-    (λ c κs. search needs)
-    (λ c. search needs))
+    stop-requires
+    returns-4)

@@ -1,11 +1,11 @@
--- `drills::commands::sum` is safe and ends.
+-- `drills::acts::sum` is safe and ends.
 use Prim.Native.Nat.{_+_, _*_, _-_, _≤_}
 use mathlib.Core.Path.{_≡_}
 use native.Mathlib.Omega.{arith}
 use borrow.Author.Needs.{needs}
 use lib.ListN.{length}
-use Rattle.drills.proofs.commands.sum.Statement.{statement}
-use Rattle.drills.proofs.commands.sum.Tie as tie
+use Rattle.drills.proofs.acts.sum.Statement.{statement}
+use Rattle.drills.proofs.acts.sum.Tie as tie
 
 abbrev Inv-loop : tie.InvT-loop
 Inv-loop batch sum₀ i₀ sum i = i ≤ length batch

@@ -1,11 +1,11 @@
--- `drills::commands::any_held` is safe and ends: it looks at 32 numbers at most.
+-- `drills::acts::any_held` is safe and ends: it looks at 32 numbers at most.
 use Prim.Native.Nat.{_+_, _*_, _-_, _≤_}
 use mathlib.Core.Path.{_≡_}
 use native.Mathlib.Omega.{arith}
 use borrow.Author.Needs.{needs}
 use lib.ListN.{length}
-use Rattle.drills.proofs.commands.any_held.Statement.{statement}
-use Rattle.drills.proofs.commands.any_held.Tie as tie
+use Rattle.drills.proofs.acts.any_held.Statement.{statement}
+use Rattle.drills.proofs.acts.any_held.Tie as tie
 
 abbrev Inv-loop : tie.InvT-loop
 Inv-loop held from to n₀ left₀ n left = left ≤ 32

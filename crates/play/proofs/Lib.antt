@@ -1,0 +1,3 @@
+pub mod Example
+pub mod ShortReads
+pub mod TurnLaws
