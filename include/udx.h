@@ -24,7 +24,9 @@
  *   1. deliver each datagram that came in; write what is to be sent; read what can be read; close when nothing more is to be sent.
  *   2. drive with the clock. UDX_DONE: the stream has ended and needs no further call.
  *   3. take until UDX_NONE, and send each batch. Until then write, deliver, drive and close answer refusal 6.
- *   4. wait for a datagram, for bytes to write, or, while stream.sender.remote_acked differs from stream.sender.seq, until the clock is
+ *   4. while bytes still wait to be written: write again, and if any were accepted go on with 2. Acknowledged packets leave in the drive, so
+ *      there is where room comes from, and a caller that waits before it has written into that room may wait for ever.
+ *   5. wait for a datagram, for bytes to write, or, while stream.sender.remote_acked differs from stream.sender.seq, until the clock is
  *      stream.timing.deadline: a drive at or past it sends unacknowledged packets again, and ends the stream with UDX_TIMED_OUT in the end.
  *
  * CLOCKS are nanoseconds from any start, below 2^60, and never run backwards from call to call.
@@ -225,7 +227,10 @@ udx_step udx_read(udx_stream stream, udx_totals totals, const uint64_t *sent, ui
                   size_t outgoing_length, const uint8_t *incoming, size_t incoming_length, const uint8_t *headers, size_t headers_length,
                   uint8_t *buf, size_t length);
 
-/* Closes this side at once; the other end is told by a state packet at the next drive. Refusals 1, 5, 6, 13. */
+/*
+ * Closes this side at once; the other end is told by a state packet at the next drive. That packet is not sent again if the line loses it:
+ * another close queues another one. Refusals 1, 5, 6, 13.
+ */
 udx_step udx_close(udx_stream stream, udx_totals totals, const uint64_t *sent, const uint64_t *held, uint64_t *queue,
                    const uint8_t *outgoing, size_t outgoing_length, const uint8_t *incoming, size_t incoming_length, uint8_t *headers,
                    size_t headers_length);

@@ -35,7 +35,9 @@
 //! 1. [Deliver](Stream::deliver) each datagram that came in, [write](Stream::write), [read](Stream::read), [close](Stream::close).
 //! 2. [Drive](Stream::drive) with the clock; with [`Driven::Done`] the stream needs no further call.
 //! 3. [Take](Stream::take) until `None`, and send each datagram. Until then writes, deliveries, drives and closes are refused.
-//! 4. Wait for a datagram, for bytes to write, or for the [deadline](Stream::deadline).
+//! 4. While bytes still wait to be written: write again, and if any were accepted go on with 2. Acknowledged packets leave in the drive,
+//!    so there is where room comes from, and a caller that waits before it has written into that room may wait for ever.
+//! 5. Wait for a datagram, for bytes to write, or for the [deadline](Stream::deadline).
 #![warn(missing_debug_implementations, unsafe_op_in_unsafe_fn)]
 
 mod header;

@@ -385,7 +385,8 @@ impl Stream {
         }
     }
 
-    /// Closes this side at once; the next drive has a state packet for the other end. Refusals 5, 6 and 13.
+    /// Closes this side at once; the next drive has a state packet for the other end. That packet is not sent again if the line loses it:
+    /// another close queues another one. Refusals 5, 6 and 13.
     pub fn close(&mut self) -> Result<(), Refusal> {
         // SAFETY: as in write.
         let r = unsafe {
@@ -478,6 +479,11 @@ impl Stream {
     pub fn round_trip(&self) -> Option<Duration> {
         let srtt = self.stream.timing.srtt;
         (srtt != 0).then(|| Duration::from_nanos(srtt))
+    }
+
+    /// The retransmission timeout: how long after a drive that moved the timer is due.
+    pub fn rto(&self) -> Duration {
+        Duration::from_nanos(self.stream.timing.rto)
     }
 }
 

@@ -28,7 +28,11 @@ fn answer<T>(r: Result<T, Refusal>, of: impl FnOnce(T) -> (&'static str, usize))
 impl Session {
     fn new() -> Session {
         let open = |local, remote| Stream::open(local, remote, 10, Duration::ZERO).unwrap();
-        Session { ends: [open(1, 2), open(2, 1)], kept: Default::default(), text: String::new() }
+        Session {
+            ends: [open(1, 2), open(2, 1)],
+            kept: Default::default(),
+            text: String::new(),
+        }
     }
 
     /// Takes a batch and keeps its datagrams; what look showed before it is its first one.
@@ -74,10 +78,13 @@ impl Session {
             1 => {
                 let fill = vec![p[4]; number(&p[2..4]) as usize];
                 let r = self.ends[end].write(&fill);
-                ("write", answer(r, |w| match w {
-                    Written::Accepted(n) => ("ok", n),
-                    Written::Wait => ("wait", 0),
-                }))
+                (
+                    "write",
+                    answer(r, |w| match w {
+                        Written::Accepted(n) => ("ok", n),
+                        Written::Wait => ("wait", 0),
+                    }),
+                )
             }
             2 => {
                 let r = self.ends[end].drive(clock(2));
