@@ -23,7 +23,7 @@ fn main() {
     let source = source.canonicalize().unwrap();
     let out = PathBuf::from(env::var("OUT_DIR").unwrap());
     fs::write(out.join("original.rs"), modules(&source, &here.join("src"))).unwrap();
-    for file in ["end", "gate", "mutations"] {
+    for file in ["direct", "end", "gate", "mutations"] {
         println!("cargo:rerun-if-changed=src/{file}.rs");
     }
     println!("cargo:rerun-if-changed=build.rs");
@@ -39,7 +39,8 @@ fn mutants(source: &Path, ours: &Path, out: &Path) -> String {
     for (index, mutation) in mutations::ALL.iter().enumerate() {
         let folder = out.join(format!("m{index}"));
         fs::create_dir_all(&folder).unwrap();
-        for (from, file) in FILES.map(|file| (source, file)).into_iter().chain([(ours, "end"), (ours, "gate")]) {
+        let ours = ["direct", "end", "gate"].map(|file| (ours, file));
+        for (from, file) in FILES.map(|file| (source, file)).into_iter().chain(ours) {
             let mut code = fs::read_to_string(from.join(format!("{file}.rs"))).unwrap();
             if file == mutation.file {
                 assert_eq!(code.matches(mutation.from).count(), 1, "{}: '{}' in {file}.rs", mutation.name, mutation.from);
@@ -54,18 +55,18 @@ fn mutants(source: &Path, ours: &Path, out: &Path) -> String {
     format!("{text}pub const ENGINES: &[crate::engine::Engine] = &[{engines}];\n")
 }
 
-/// The original's modules, each with the file that this project puts beside it: a child module sees the private fields.
+/// The original's modules, each with the files that this project puts beside it: a child module sees the private fields.
 fn modules(source: &Path, ours: &Path) -> String {
     let mut text = String::new();
     for file in ["constants", "error", "mutex", "packet"] {
         text += &format!("#[allow(warnings)]\n#[path = {:?}]\npub mod {file};\n", source.join(format!("{file}.rs")));
     }
-    for (file, child) in [("socket", "gate"), ("stream", "end")] {
-        text += &format!(
-            "#[allow(warnings)]\npub mod {file} {{\n    include!({:?});\n    #[path = {:?}]\n    pub mod {child};\n}}\n",
-            source.join(format!("{file}.rs")),
-            ours.join(format!("{child}.rs")),
-        );
+    for (file, children) in [("socket", &["gate"][..]), ("stream", &["direct", "end"])] {
+        text += &format!("#[allow(warnings)]\npub mod {file} {{\n    include!({:?});\n", source.join(format!("{file}.rs")));
+        for child in children {
+            text += &format!("    #[path = {:?}]\n    pub mod {child};\n", ours.join(format!("{child}.rs")));
+        }
+        text += "}\n";
     }
     text + "pub(crate) use socket::EventOutgoing;\n"
 }

@@ -1,45 +1,32 @@
-// The whole path of a packet, for timing, as C functions: 32 packets are written, driven, taken, delivered, read, acked and settled between
-// two ends. Each function makes all the calls of its kind in a round, so that little but the calls is timed. The order of `numbers` is that
-// of bench_calls.
-ghost use Prim.Native.Nat.{_≤_};
+// The path of a packet, for timing, as C functions: packets are written, driven, taken, delivered, read, acked and settled between two ends.
+// Each function makes all the calls of its kind in a round, so that little but the calls is timed. The order of `numbers` is that of
+// bench_calls.
+use answers::Step;
+use answers::nothing;
 use bench_calls::stream;
 use bench_calls::totals;
 use records::Queue;
 use records::Receiver;
 use records::Sender;
-use records::Stream;
 use records::Timing;
-use records::Totals;
 use rtt::Nanos;
 
-// One end's numbers; its words and stores are lent.
-struct End {
-    stream: Stream,
-    totals: Totals,
-}
-
-// An end that hands over, the one that takes it in, and how many datagrams went.
-struct Ends {
-    from: End,
-    to: End,
-    moved: u64,
-}
-
-fn unpacked(numbers: &[u64; 24]) -> End {
+fn unpacked(numbers: &[u64; 24]) -> Step {
     let stream = stream(numbers);
     let totals = totals(numbers);
-    End { stream, totals }
+    nothing(stream, totals)
 }
 
-fn after(s: udx::Step) -> End {
-    let stream = s.stream;
-    let totals = s.totals;
-    End { stream, totals }
+// The step before, where there is no call to make.
+fn unchanged(r: Step) -> Step {
+    let s = r.stream;
+    let t = r.totals;
+    nothing(s, t)
 }
 
-// 32 writes.
-fn write(
-    e: End,
+// The packet of this size at this place is written, if there is a whole one.
+fn write_one(
+    r: Step,
     sent: &mut [u64; 64],
     held: &[u64; 32],
     queue: &mut [u64; 128],
@@ -47,21 +34,63 @@ fn write(
     incoming: &[u8],
     headers: &[u8],
     bytes: &[u8],
-) -> End {
-    let mut r = e;
+    at: usize,
+    size: usize,
+) -> Step {
+    if bytes.len() < size {
+        return unchanged(r);
+    }
+    if bytes.len() - size < at {
+        return unchanged(r);
+    }
+    let end = at + size;
+    let one = &bytes[at..end];
+    let s = r.stream;
+    let t = r.totals;
+    udx::write(s, t, sent, held, queue, outgoing, incoming, headers, one)
+}
+
+// Writes of one packet each, until one is not accepted.
+fn write(
+    r: Step,
+    sent: &mut [u64; 64],
+    held: &[u64; 32],
+    queue: &mut [u64; 128],
+    outgoing: &mut [u8],
+    incoming: &[u8],
+    headers: &[u8],
+    bytes: &[u8],
+    size: usize,
+) -> Step {
+    let mut w = r;
+    let mut count: usize = 0;
     let mut n: u32 = 0;
     while n < 32 {
-        let s = r.stream;
-        let t = r.totals;
-        let d = udx::write(s, t, sent, held, queue, outgoing, incoming, headers, bytes);
-        r = after(d);
         n += 1;
+        w = write_one(
+            w,
+            sent,
+            held,
+            queue,
+            outgoing,
+            incoming,
+            headers,
+            bytes,
+            count,
+            size,
+        );
+        if w.count == 0 {
+            w.count = count;
+            return w;
+        }
+        count = std::num::wrapping_add_usize(count, w.count);
     }
-    r
+    w.count = count;
+    w
 }
 
 fn drive(
-    e: End,
+    r: Step,
     sent: &mut [u64; 64],
     held: &[u64; 32],
     queue: &mut [u64; 128],
@@ -69,106 +98,16 @@ fn drive(
     incoming: &[u8],
     headers: &mut [u8],
     clock: u64,
-) -> End {
-    let s = e.stream;
-    let t = e.totals;
+) -> Step {
+    let s = r.stream;
+    let t = r.totals;
     let c = Nanos(clock);
-    let d = udx::drive(s, t, sent, held, queue, outgoing, incoming, headers, c);
-    after(d)
+    udx::drive(s, t, sent, held, queue, outgoing, incoming, headers, c)
 }
 
-// The smaller one.
-fn least(a: usize, b: usize) -> usize
-    ensures { λ r. ⌜ (r ≤ a) × (r ≤ b) ⌝ }
-{
-    if a < b { a } else { b }
-}
-
-// The datagram at this place of a batch is delivered, if there is a whole one.
-fn deliver_one(
-    e: End,
-    sent: &mut [u64; 64],
-    held: &mut [u64; 32],
-    queue: &mut [u64; 128],
-    outgoing: &[u8],
-    incoming: &mut [u8],
-    headers: &mut [u8],
-    batch: &[u8],
-    at: usize,
-    size: usize,
-    clock: u64,
-) -> End {
-    if batch.len() < size {
-        return e;
-    }
-    if batch.len() - size < at {
-        return e;
-    }
-    let end = at + size;
-    let one = &batch[at..end];
-    let s = e.stream;
-    let t = e.totals;
-    let c = Nanos(clock);
-    let d = udx::deliver(s, t, sent, held, queue, outgoing, incoming, headers, one, c);
-    after(d)
-}
-
-// The datagrams of a batch, each of this size, are delivered.
-fn deliver(
-    e: End,
-    sent: &mut [u64; 64],
-    held: &mut [u64; 32],
-    queue: &mut [u64; 128],
-    outgoing: &[u8],
-    incoming: &mut [u8],
-    headers: &mut [u8],
-    batch: &[u8],
-    size: usize,
-    clock: u64,
-) -> End {
-    let mut r = e;
-    let mut at: usize = 0;
-    let mut n: u32 = 0;
-    while n < 10 {
-        if batch.len() <= at {
-            return r;
-        }
-        n += 1;
-        r = deliver_one(
-            r,
-            sent,
-            held,
-            queue,
-            outgoing,
-            incoming,
-            headers,
-            batch,
-            at,
-            size,
-            clock,
-        );
-        at = std::num::wrapping_add_usize(at, size);
-    }
-    r
-}
-
-// How many datagrams of this size there are.
-fn pieces(count: usize, size: usize) -> u64 {
-    if size == 0 {
-        return 0;
-    }
-    (count / size) as u64
-}
-
-// A batch that was taken: the bytes put and the size of its datagrams.
-struct Batch {
-    end: End,
-    count: usize,
-    size: usize,
-}
-
-fn take(
-    e: End,
+// The next batch is put at this place of the buffer.
+fn take_one(
+    r: Step,
     sent: &mut [u64; 64],
     held: &[u64; 32],
     queue: &[u64; 128],
@@ -176,93 +115,35 @@ fn take(
     incoming: &[u8],
     headers: &[u8],
     buf: &mut [u8],
-) -> Batch {
-    let s = e.stream;
-    let t = e.totals;
-    let d = udx::take(s, t, sent, held, queue, outgoing, incoming, headers, buf);
-    let count = d.count;
-    let size = if d.segment == 0 { count } else { d.segment };
-    let end = after(d);
-    Batch { end, count, size }
+    at: usize,
+) -> Step {
+    if buf.len() < at {
+        return unchanged(r);
+    }
+    let rest = &mut buf[at..];
+    let s = r.stream;
+    let t = r.totals;
+    udx::take(s, t, sent, held, queue, outgoing, incoming, headers, rest)
 }
 
-// One batch is taken of one end and delivered to the other.
-fn hand(
-    w: Ends,
-    from_sent: &mut [u64; 64],
-    from_held: &[u64; 32],
-    from_queue: &[u64; 128],
-    from_outgoing: &[u8],
-    from_incoming: &[u8],
-    from_headers: &[u8],
+// Batches one behind the other, until a take puts nothing: a queue of 128 entries has 13 batches of ten.
+fn take(
+    r: Step,
     sent: &mut [u64; 64],
-    held: &mut [u64; 32],
-    queue: &mut [u64; 128],
+    held: &[u64; 32],
+    queue: &[u64; 128],
     outgoing: &[u8],
-    incoming: &mut [u8],
-    headers: &mut [u8],
+    incoming: &[u8],
+    headers: &[u8],
     buf: &mut [u8],
-    clock: u64,
-) -> Ends {
-    let b = take(
-        w.from,
-        from_sent,
-        from_held,
-        from_queue,
-        from_outgoing,
-        from_incoming,
-        from_headers,
-        buf,
-    );
-    let count = least(b.count, buf.len());
-    let size = b.size;
-    let from = b.end;
-    let batch = &buf[0..count];
-    let to = deliver(
-        w.to,
-        sent,
-        held,
-        queue,
-        outgoing,
-        incoming,
-        headers,
-        batch,
-        size,
-        clock,
-    );
-    let moved = std::num::wrapping_add_u64(w.moved, pieces(count, size));
-    Ends { from, to, moved }
-}
-
-// All that one end has to take is delivered to the other: 32 packets are four batches, and a fifth take finds none.
-fn carry(
-    w: Ends,
-    from_sent: &mut [u64; 64],
-    from_held: &[u64; 32],
-    from_queue: &[u64; 128],
-    from_outgoing: &[u8],
-    from_incoming: &[u8],
-    from_headers: &[u8],
-    sent: &mut [u64; 64],
-    held: &mut [u64; 32],
-    queue: &mut [u64; 128],
-    outgoing: &[u8],
-    incoming: &mut [u8],
-    headers: &mut [u8],
-    buf: &mut [u8],
-    clock: u64,
-) -> Ends {
-    let mut r = w;
+) -> Step {
+    let mut w = r;
+    let mut count: usize = 0;
     let mut n: u32 = 0;
-    while n < 5 {
-        r = hand(
-            r,
-            from_sent,
-            from_held,
-            from_queue,
-            from_outgoing,
-            from_incoming,
-            from_headers,
+    while n < 14 {
+        n += 1;
+        w = take_one(
+            w,
             sent,
             held,
             queue,
@@ -270,16 +151,95 @@ fn carry(
             incoming,
             headers,
             buf,
-            clock,
+            count,
         );
-        n += 1;
+        if w.count == 0 {
+            w.count = count;
+            return w;
+        }
+        count = std::num::wrapping_add_usize(count, w.count);
     }
-    r
+    w.count = count;
+    w
 }
 
-// Reads of one packet each, until one puts nothing.
-fn read(
-    e: End,
+// The datagram of this size at this place is delivered, if there is a whole one and it is not lost.
+fn deliver_one(
+    r: Step,
+    sent: &mut [u64; 64],
+    held: &mut [u64; 32],
+    queue: &mut [u64; 128],
+    outgoing: &[u8],
+    incoming: &mut [u8],
+    headers: &mut [u8],
+    line: &[u8],
+    at: usize,
+    size: usize,
+    lost: u8,
+    clock: u64,
+) -> Step {
+    if 0 < lost {
+        return unchanged(r);
+    }
+    if line.len() < size {
+        return unchanged(r);
+    }
+    if line.len() - size < at {
+        return unchanged(r);
+    }
+    let end = at + size;
+    let one = &line[at..end];
+    let s = r.stream;
+    let t = r.totals;
+    let c = Nanos(clock);
+    udx::deliver(s, t, sent, held, queue, outgoing, incoming, headers, one, c)
+}
+
+// The datagrams that are not lost are delivered: `lost` has a byte for each, 0 where it arrives, and 128 at most.
+fn deliver(
+    r: Step,
+    sent: &mut [u64; 64],
+    held: &mut [u64; 32],
+    queue: &mut [u64; 128],
+    outgoing: &[u8],
+    incoming: &mut [u8],
+    headers: &mut [u8],
+    line: &[u8],
+    size: usize,
+    lost: &[u8],
+    clock: u64,
+) -> Step {
+    let mut w = r;
+    let mut at: usize = 0;
+    let mut n: usize = 0;
+    while n < 128 {
+        if lost.len() <= n {
+            return w;
+        }
+        let one = lost[n];
+        n += 1;
+        w = deliver_one(
+            w,
+            sent,
+            held,
+            queue,
+            outgoing,
+            incoming,
+            headers,
+            line,
+            at,
+            size,
+            one,
+            clock,
+        );
+        at = std::num::wrapping_add_usize(at, size);
+    }
+    w
+}
+
+// One read of at most this size, put at this place of the buffer.
+fn read_one(
+    r: Step,
     sent: &[u64; 64],
     held: &mut [u64; 32],
     queue: &[u64; 128],
@@ -287,17 +247,59 @@ fn read(
     incoming: &[u8],
     headers: &[u8],
     buf: &mut [u8],
-) -> End {
-    let mut r = e;
+    at: usize,
+    size: usize,
+) -> Step {
+    if buf.len() < size {
+        return unchanged(r);
+    }
+    if buf.len() - size < at {
+        return unchanged(r);
+    }
+    let end = at + size;
+    let part = &mut buf[at..end];
+    let s = r.stream;
+    let t = r.totals;
+    udx::read(s, t, sent, held, queue, outgoing, incoming, headers, part)
+}
+
+// Reads of one packet each, until one puts nothing.
+fn read(
+    r: Step,
+    sent: &[u64; 64],
+    held: &mut [u64; 32],
+    queue: &[u64; 128],
+    outgoing: &[u8],
+    incoming: &[u8],
+    headers: &[u8],
+    buf: &mut [u8],
+    size: usize,
+) -> Step {
+    let mut w = r;
+    let mut count: usize = 0;
     let mut n: u32 = 0;
     while n < 33 {
-        let s = r.stream;
-        let t = r.totals;
-        let d = udx::read(s, t, sent, held, queue, outgoing, incoming, headers, buf);
-        r = after(d);
         n += 1;
+        w = read_one(
+            w,
+            sent,
+            held,
+            queue,
+            outgoing,
+            incoming,
+            headers,
+            buf,
+            count,
+            size,
+        );
+        if w.count == 0 {
+            w.count = count;
+            return w;
+        }
+        count = std::num::wrapping_add_usize(count, w.count);
     }
-    r
+    w.count = count;
+    w
 }
 
 fn keep_sender(n: &mut [u64; 24], s: Sender) {
@@ -340,7 +342,9 @@ fn keep_timing(n: &mut [u64; 24], t: Timing) {
     n[15] = t.deadline.0.0;
 }
 
-fn keep(n: &mut [u64; 24], s: Stream, t: Totals) {
+fn keep(n: &mut [u64; 24], r: Step) {
+    let s = r.stream;
+    let t = r.totals;
     let last = s.clocks.last.0;
     let drive = s.clocks.drive.0;
     n[16] = last;
@@ -353,6 +357,18 @@ fn keep(n: &mut [u64; 24], s: Stream, t: Totals) {
     keep_timing(n, s.timing);
 }
 
+// 1 where the stream has an error.
+fn failed(r: Step) -> u32 {
+    let s = r.stream;
+    let ending = s.ending;
+    let error = ending.error;
+    if records::is_set(error) {
+        return 1;
+    }
+    0
+}
+
+// The bytes accepted.
 #[no_mangle]
 pub extern "C" fn udx_path_write(
     numbers: &mut [u64; 24],
@@ -363,8 +379,9 @@ pub extern "C" fn udx_path_write(
     incoming: &[u8],
     headers: &[u8],
     bytes: &[u8],
-) {
-    let e = write(
+    size: usize,
+) -> usize {
+    let r = write(
         unpacked(numbers),
         sent,
         held,
@@ -373,10 +390,13 @@ pub extern "C" fn udx_path_write(
         incoming,
         headers,
         bytes,
+        size,
     );
-    keep(numbers, e.stream, e.totals);
+    keep(numbers, r);
+    r.count
 }
 
+// 1 where the stream has an error after it, which `numbers` have no place for.
 #[no_mangle]
 pub extern "C" fn udx_path_drive(
     numbers: &mut [u64; 24],
@@ -387,8 +407,8 @@ pub extern "C" fn udx_path_drive(
     incoming: &[u8],
     headers: &mut [u8],
     clock: u64,
-) {
-    let e = drive(
+) -> u32 {
+    let r = drive(
         unpacked(numbers),
         sent,
         held,
@@ -398,39 +418,24 @@ pub extern "C" fn udx_path_drive(
         headers,
         clock,
     );
-    keep(numbers, e.stream, e.totals);
+    keep(numbers, r);
+    failed(r)
 }
 
-// How many datagrams went from one end to the other.
+// The bytes put.
 #[no_mangle]
-pub extern "C" fn udx_path_carry(
-    from_numbers: &mut [u64; 24],
-    from_sent: &mut [u64; 64],
-    from_held: &[u64; 32],
-    from_queue: &[u64; 128],
-    from_outgoing: &[u8],
-    from_incoming: &[u8],
-    from_headers: &[u8],
+pub extern "C" fn udx_path_take(
     numbers: &mut [u64; 24],
     sent: &mut [u64; 64],
-    held: &mut [u64; 32],
-    queue: &mut [u64; 128],
+    held: &[u64; 32],
+    queue: &[u64; 128],
     outgoing: &[u8],
-    incoming: &mut [u8],
-    headers: &mut [u8],
+    incoming: &[u8],
+    headers: &[u8],
     buf: &mut [u8],
-    clock: u64,
-) -> u64 {
-    let from = unpacked(from_numbers);
-    let to = unpacked(numbers);
-    let w = carry(
-        Ends { from, to, moved: 0 },
-        from_sent,
-        from_held,
-        from_queue,
-        from_outgoing,
-        from_incoming,
-        from_headers,
+) -> usize {
+    let r = take(
+        unpacked(numbers),
         sent,
         held,
         queue,
@@ -438,13 +443,42 @@ pub extern "C" fn udx_path_carry(
         incoming,
         headers,
         buf,
-        clock,
     );
-    keep(from_numbers, w.from.stream, w.from.totals);
-    keep(numbers, w.to.stream, w.to.totals);
-    w.moved
+    keep(numbers, r);
+    r.count
 }
 
+#[no_mangle]
+pub extern "C" fn udx_path_deliver(
+    numbers: &mut [u64; 24],
+    sent: &mut [u64; 64],
+    held: &mut [u64; 32],
+    queue: &mut [u64; 128],
+    outgoing: &[u8],
+    incoming: &mut [u8],
+    headers: &mut [u8],
+    line: &[u8],
+    size: usize,
+    lost: &[u8],
+    clock: u64,
+) {
+    let r = deliver(
+        unpacked(numbers),
+        sent,
+        held,
+        queue,
+        outgoing,
+        incoming,
+        headers,
+        line,
+        size,
+        lost,
+        clock,
+    );
+    keep(numbers, r);
+}
+
+// The bytes put.
 #[no_mangle]
 pub extern "C" fn udx_path_read(
     numbers: &mut [u64; 24],
@@ -455,8 +489,9 @@ pub extern "C" fn udx_path_read(
     incoming: &[u8],
     headers: &[u8],
     buf: &mut [u8],
-) {
-    let e = read(
+    size: usize,
+) -> usize {
+    let r = read(
         unpacked(numbers),
         sent,
         held,
@@ -465,6 +500,8 @@ pub extern "C" fn udx_path_read(
         incoming,
         headers,
         buf,
+        size,
     );
-    keep(numbers, e.stream, e.totals);
+    keep(numbers, r);
+    r.count
 }

@@ -1,10 +1,9 @@
--- bench_path::deliver is safe and ends: at most ten turns.
-use Prim.Native.Nat.{_+_, _-_, _≤_}
-use mathlib.Core.Path.{_≡_, sym}
+-- bench_path::deliver is safe and ends: at most 128 turns.
+use Prim.Native.Nat.{_-_}
+use mathlib.Core.Path.{_≡_}
 use native.Mathlib.Omega.{arith}
 use borrow.Author.Needs.{needs}
 use lib.ListN.{length}
-use lib.Seq.{length-take-le}
 use Rattle.bench_path.proofs.deliver.Statement.{statement}
 use Rattle.bench_path.proofs.deliver.Tie as tie
 use Rattle.bench_path.proofs.deliver.Reads as reads
@@ -13,10 +12,10 @@ use Rattle.bench_path.proofs.deliver_one.Reads as deliver-one-reads
 use Rattle.std.proofs.num.wrapping_add_usize.Reads as wrapping-add-usize-reads
 
 abbrev Inv-loop : tie.InvT-loop
-Inv-loop sent₀ held₀ queue₀ outgoing incoming₀ headers₀ batch size clock r₀ at₀ n₀ sent held queue incoming headers r at n = (length incoming ≡ length incoming₀) × (length headers ≡ length headers₀)
+Inv-loop sent₀ held₀ queue₀ outgoing incoming₀ headers₀ line size lost clock w₀ at₀ n₀ sent held queue incoming headers w at n = (length incoming ≡ length incoming₀) × (length headers ≡ length headers₀)
 
 abbrev μ-loop : tie.MeasureT-loop
-μ-loop sent₀ held₀ queue₀ outgoing incoming₀ headers₀ batch size clock r₀ at₀ n₀ sent held queue incoming headers r at n = 10 - n
+μ-loop sent₀ held₀ queue₀ outgoing incoming₀ headers₀ line size lost clock w₀ at₀ n₀ sent held queue incoming headers w at n = 128 - n
 
 loop-holds : tie.Need-loop-holds Inv-loop μ-loop
 loop-holds c = search needs
@@ -29,6 +28,9 @@ same-length-2 c = search needs
 
 returns : tie.Need-returns Inv-loop μ-loop
 returns c = search needs
+
+shared-slice-read-one : tie.Need-shared-slice-read-one Inv-loop μ-loop
+shared-slice-read-one c = search needs
 
 add-n : tie.Need-add-n Inv-loop μ-loop
 add-n c = search needs
@@ -43,7 +45,10 @@ loop-less : tie.Need-loop-less Inv-loop μ-loop
 loop-less c = search needs
 
 loop-again : tie.Need-loop-again Inv-loop μ-loop
-loop-again c = search needs
+loop-again c =
+    let k = c .before .before .before .before .before .deliver-one .kept in
+    let i = c .before .before .before .before .before .before .before .before .before .before .before .before .before .before .loop .inv in
+    (omega (arith, k .1, i .0, i .1), omega (arith, k .1, i .0, i .1))
 
 same-length-3 : tie.Need-same-length-3 Inv-loop μ-loop
 same-length-3 c = search needs
@@ -64,6 +69,7 @@ deliver-spec =
     same-length
     same-length-2
     returns
+    shared-slice-read-one
     add-n
     deliver-one-requires
     wrapping-add-usize-requires
