@@ -23,7 +23,8 @@
  * THE ROUND OF A CALLER. Repeat:
  *   1. deliver each datagram that came in; write what is to be sent; read what can be read; close when nothing more is to be sent.
  *   2. drive with the clock. UDX_DONE: the stream has ended and needs no further call.
- *   3. take until UDX_NONE, and send each batch. Until then write, deliver, drive and close answer refusal 6.
+ *   3. take until UDX_NONE, and send each batch. Until then write, deliver, drive and close answer refusal 6. Where stream.queue.left is 0
+ *      the next take answers UDX_NONE, so that call can be saved.
  *   4. while bytes still wait to be written: write again, and if any were accepted go on with 2. Acknowledged packets leave in the drive, so
  *      there is where room comes from, and a caller that waits before it has written into that room may wait for ever.
  *   5. wait for a datagram, for bytes to write, or, while stream.sender.remote_acked differs from stream.sender.seq, until the clock is

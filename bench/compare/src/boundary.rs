@@ -39,8 +39,9 @@ impl End for Boundary {
 
     fn take(&mut self, line: &mut Vec<u8>, size: usize) -> usize {
         let mut count = 0;
-        while let Some(batch) = self.0.take(&mut line[count..]).expect("a take") {
-            count += batch.bytes().len();
+        while self.0.left_to_take() != 0 {
+            let batch = self.0.take(&mut line[count..]).expect("a take");
+            count += batch.map_or(0, |batch| batch.bytes().len());
         }
         count / size
     }

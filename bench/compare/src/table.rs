@@ -9,14 +9,14 @@ use std::fmt::Write;
 const NAMES: [(&str, u32); CALLS] = [
     ("write", 32),
     ("drive that queues 32 packets", 1),
-    ("take: four batches, then none", 5),
+    ("take: four batches, and none left", 5),
     ("deliver of data", 32),
     ("read: 32 packets, then none", 33),
     ("drive that queues 32 acks", 1),
-    ("take: four batches of acks, then none", 5),
+    ("take: four batches of acks, and none left", 5),
     ("deliver of an ack", 32),
     ("drive that settles 32 packets", 1),
-    ("take that finds none", 1),
+    ("take where none is left", 1),
 ];
 
 fn nanos(value: Option<f64>) -> String {

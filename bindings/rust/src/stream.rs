@@ -310,6 +310,25 @@ impl Stream {
         }))
     }
 
+    /// Queue entries of the last drive that are left to take: 0 where a [take](Stream::take) would answer `None`, which this tells without
+    /// the call.
+    ///
+    /// ```
+    /// # use std::time::Duration;
+    /// # use udx::{Stream, TAKE_ROOM};
+    /// let mut s = Stream::open(1, 2, 10, Duration::ZERO)?;
+    /// let _ = s.write(&[7; 2760])?;
+    /// assert_eq!(s.left_to_take(), 0); // a drive decides what goes out
+    /// let _ = s.drive(Duration::ZERO)?;
+    /// assert_eq!(s.left_to_take(), 2);
+    /// let _ = s.take(&mut vec![0; TAKE_ROOM])?;
+    /// assert_eq!(s.left_to_take(), 0);
+    /// # Ok::<(), udx::Refusal>(())
+    /// ```
+    pub fn left_to_take(&self) -> usize {
+        self.stream.queue.left as usize
+    }
+
     /// The next datagram to be taken, without taking it.
     ///
     /// ```

@@ -126,7 +126,14 @@ fn take_one(
     udx::take(s, t, sent, held, queue, outgoing, incoming, headers, rest)
 }
 
-// Batches one behind the other, until a take puts nothing: a queue of 128 entries has 13 batches of ten.
+// No entry is left to take.
+fn all_taken(r: Step) -> bool {
+    let s = r.stream;
+    let q = s.queue;
+    q.left == 0
+}
+
+// Batches one behind the other, until no entry is left: a queue of 128 entries has 13 batches of ten.
 fn take(
     r: Step,
     sent: &mut [u64; 64],
@@ -142,6 +149,10 @@ fn take(
     let mut n: u32 = 0;
     while n < 14 {
         n += 1;
+        if all_taken(w) {
+            w.count = count;
+            return w;
+        }
         w = take_one(
             w,
             sent,
@@ -153,10 +164,6 @@ fn take(
             buf,
             count,
         );
-        if w.count == 0 {
-            w.count = count;
-            return w;
-        }
         count = std::num::wrapping_add_usize(count, w.count);
     }
     w.count = count;

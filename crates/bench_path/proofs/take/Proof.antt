@@ -5,10 +5,6 @@ use borrow.Author.Needs.{needs}
 use lib.ListN.{length}
 use Rattle.bench_path.proofs.take.Statement.{statement}
 use Rattle.bench_path.proofs.take.Tie as tie
-use Rattle.bench_path.proofs.take.Reads as reads
-use Rattle.bench_path.proofs.take.Lts as lts
-use Rattle.bench_path.proofs.take_one.Reads as take-one-reads
-use Rattle.std.proofs.num.wrapping_add_usize.Reads as wrapping-add-usize-reads
 
 abbrev Inv-loop : tie.InvT-loop
 Inv-loop sent₀ held queue outgoing incoming headers buf₀ w₀ count₀ n₀ sent buf w count n = length buf ≡ length buf₀
@@ -16,49 +12,20 @@ Inv-loop sent₀ held queue outgoing incoming headers buf₀ w₀ count₀ n₀ 
 abbrev μ-loop : tie.MeasureT-loop
 μ-loop sent₀ held queue outgoing incoming headers buf₀ w₀ count₀ n₀ sent buf w count n = 14 - n
 
-loop-holds : tie.Need-loop-holds Inv-loop μ-loop
-loop-holds c = search needs
-
-add-n : tie.Need-add-n Inv-loop μ-loop
-add-n c = search needs
-
-take-one-requires : tie.Need-take-one-requires Inv-loop μ-loop
-take-one-requires c κs = search needs
-
-same-length : tie.Need-same-length Inv-loop μ-loop
-same-length c = search needs
-
-returns : tie.Need-returns Inv-loop μ-loop
-returns c = search needs
-
-wrapping-add-usize-requires : tie.Need-wrapping-add-usize-requires Inv-loop μ-loop
-wrapping-add-usize-requires c κs = search needs
-
-loop-less : tie.Need-loop-less Inv-loop μ-loop
-loop-less c = search needs
-
-loop-again : tie.Need-loop-again Inv-loop μ-loop
-loop-again c = search needs
-
-same-length-2 : tie.Need-same-length-2 Inv-loop μ-loop
-same-length-2 c = search needs
-
-returns-2 : tie.Need-returns-2 Inv-loop μ-loop
-returns-2 c = search needs
-
 pub take-spec : {M : Type 1} → statement M
 take-spec =
     tie.close
     (tie.spec
     Inv-loop
     μ-loop
-    loop-holds
-    add-n
-    take-one-requires
-    same-length
-    returns
-    wrapping-add-usize-requires
-    loop-less
-    loop-again
-    same-length-2
-    returns-2)
+    (λ c. search needs)
+    (λ c. search needs)
+    (λ c κs. search needs)
+    (λ c. search needs)
+    (λ c. search needs)
+    (λ c κs. search needs)
+    (λ c κs. search needs)
+    (λ c. search needs)
+    (λ c. search needs)
+    (λ c. search needs)
+    (λ c. search needs))

@@ -1,12 +1,12 @@
 -- `commands::fill` meets its contract: what lies before the place is filled.
 use Prim.Native.Nat.{ℕ, zero, suc, _+_, _-_, _≤_, _<_}
-use mathlib.Core.Path.{_≡_, refl, sym, ap, _∙_}
-use mathlib.Core.List.{List, _++_, _∷_, []}
-use borrow.Author.Needs.{needs}
 use native.Mathlib.Omega.{arith}
 use native.Mathlib.Numerals.{add-one}
-use lib.ListN.{length, length-set, take, drop, replicate, set}
+use mathlib.Core.Path.{_≡_, refl, sym, ap, _∙_}
+use mathlib.Core.List.{List, _++_, _∷_, []}
+use lib.ListN.{length, length-set, take, replicate, set}
 use lib.Seq.{take-suc-set, take-all}
+use borrow.Author.Needs.{needs}
 use Rattle.commands.proofs.fill.Statement.{statement}
 use Rattle.commands.proofs.fill.Tie as tie
 
