@@ -20,7 +20,6 @@ use transfer::Transfer;
 
 /// Answers whether every byte arrived as it was sent.
 fn run() -> Result<bool, Failure> {
-    standard_output::check()?;
     let options = Options::parse(std::env::args_os().skip(1))?;
     if options.help {
         return standard_output::print(HELP).map(|()| true);
