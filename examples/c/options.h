@@ -82,7 +82,7 @@ static uint64_t parse_number(const char *name, const char *text, int decimal, ui
     if (end > 0 && decimal && text[end] == '.')
         end = parse_decimals(text, end, &part);
     if (end == 0 || text[end] != 0)
-        die(BAD_USE, "%s %s: not a number%s", name, text, decimal ? " with up to six decimals" : " without decimals");
+        die(BAD_USE, "%s %s: not a %s", name, text, decimal ? "number with up to six decimals" : "whole number");
     if (whole > most || (whole == most && part > 0))
         die(BAD_USE, "%s %s: more than %" PRIu64, name, text, most);
     return whole * unit + part;

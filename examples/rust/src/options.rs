@@ -98,8 +98,12 @@ fn parse_parts(text: &[u8], decimal: bool) -> Option<(u64, u64)> {
 
 /// A number from 0 to `most`, whole or in millionths.
 fn parse_number(name: &str, text: &str, decimal: bool, most: u64) -> Result<u64, Failure> {
-    let kind = if decimal { "with up to six decimals" } else { "without decimals" };
-    let (whole, part) = parse_parts(text.as_bytes(), decimal).ok_or_else(|| bad_use(format!("{name} {text}: not a number {kind}")))?;
+    let kind = if decimal {
+        "number with up to six decimals"
+    } else {
+        "whole number"
+    };
+    let (whole, part) = parse_parts(text.as_bytes(), decimal).ok_or_else(|| bad_use(format!("{name} {text}: not a {kind}")))?;
     if whole > most || (whole == most && part > 0) {
         return Err(bad_use(format!("{name} {text}: more than {most}")));
     }
