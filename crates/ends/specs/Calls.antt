@@ -2,7 +2,7 @@
 -- the end keeps of datagrams taken stays, whatever the call. Assumes nothing.
 use Prim.Native.Nat.{ℕ}
 use mathlib.Core.Path.{_≡_}
-use mathlib.Core.List.{List}
+use mathlib.Core.List.{List, []}
 use lib.ListN.{replicate}
 use Rattle.error.specs.declared.Outcome.{Outcome}
 use Rattle.model.specs.Lists.{Bytes}
@@ -15,6 +15,7 @@ use Rattle.answers.specs.declared.step.Step.{Step}
 use Rattle.udx.specs.Agree.{Answers}
 use Rattle.udx.specs.Take.{Hands}
 use Rattle.udx.specs.Read.{Gives}
+use Rattle.kept.specs.Kept.{keptOf}
 use Rattle.ends.specs.declared.End.{End}
 use Rattle.ends.specs.declared.calls.Called.{Called}
 
@@ -61,10 +62,11 @@ pub record Reads (e : End) (b : Stores) (buf : Bytes) (r : Called) (buf′ : Byt
   pub keeps : r .end .kept ≡ e .kept
 
 -- 01, 'The session program': "opened at clock 0 with ceiling 10". Its stream and totals are those that such an open hands out, its words
--- are zeros.
+-- are zeros, and no datagram is kept of it.
 pub record Fresh (local remote : ℕ) (b : Stores) (r : End) : Type 0 where
   pub outcome : Outcome
   pub opens : Opens local remote 10 0 (b .outgoing) (b .incoming) (b .headers) (record { outcome = outcome; stream = r .stream; totals = r .totals })
   pub sent : r .sent ≡ replicate 64 0
   pub held : r .held ≡ replicate 32 0
   pub queue : r .queue ≡ replicate 128 0
+  pub kept : (store : Bytes) → keptOf (r .kept) store ≡ []

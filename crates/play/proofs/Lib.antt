@@ -1,3 +1,4 @@
 pub mod Example
 pub mod ShortReads
 pub mod TurnLaws
+pub mod Whole
