@@ -1,3 +1,4 @@
+pub mod Contracts
 pub mod Example
 pub mod ShortReads
 pub mod TurnLaws

@@ -1,6 +1,6 @@
 -- A whole session: the turns of a script, one after another from two fresh ends, print what the definition says (`session`). What is
--- known of a turn is the contract of `run_one`, and of an end that of `fresh_end`. The statement is `WholeSession`, at the bottom; the
--- proof is proofs/Whole.antt. Assumes nothing.
+-- known of a turn is the contract of `run_one`, and of an end that of `fresh_end`, word for word (proofs/Contracts.antt). The statement is
+-- `WholeSession`, at the bottom; the proof is proofs/Whole.antt. Assumes nothing.
 use Prim.Native.Nat.{ℕ, _≤_, _<_}
 use mathlib.Core.Path.{_≡_}
 use mathlib.Core.Bool.{false}
@@ -21,10 +21,17 @@ pub record Made : Type 0 where
   pub lends : Lends
   pub text : Bytes
 
--- the contract of `run_one`, of a turn at `at`
+-- the contract of `run_one`, of a turn at `at`: it goes on within the script, and it is the session's
+abbrev pub GoesOn : Bytes → ℕ → Made → Type 0
+GoesOn script at t = Turned (length script) at (t .turn)
+
+abbrev pub IsTurn : Bytes → ℕ → Ends → Lends → Made → Type 0
+IsTurn script at w d t =
+    at < length script → Laid (w .zero) (d .zero) → Laid (w .one) (d .one) → Plays (turn script at (sidesOf w d)) (t .turn) (t .lends) (t .text)
+
 pub record Makes (script : Bytes) (at : ℕ) (w : Ends) (d : Lends) (t : Made) : Type 0 where
-  pub turned : Turned (length script) at (t .turn)
-  pub plays : at < length script → Laid (w .zero) (d .zero) → Laid (w .one) (d .one) → Plays (turn script at (sidesOf w d)) (t .turn) (t .lends) (t .text)
+  pub turned : GoesOn script at t
+  pub plays : IsTurn script at w d t
 
 -- turns from a place up to the script's end, each on what the last one left
 abbrev pub RunsFrom : Bytes → ℕ → Ends → Lends → List Made → Type 0
