@@ -1,0 +1,4 @@
+pub mod Calls
+pub mod Contracts
+pub mod FromC
+pub mod LentTotals
