@@ -1,8 +1,9 @@
 -- A part of a lent store by its numbers, and the bytes that it shows. Assumes nothing.
-use Prim.Native.Nat.{ℕ, _*_, _%_}
+use Prim.Native.Nat.{ℕ, _+_, _*_, _%_, _≤_}
+use mathlib.Core.Path.{_≡_}
 use mathlib.Core.List.{List}
 use mathlib.Core.Bool.{true, false, cond}
-use lib.ListN.{take, drop}
+use lib.ListN.{length, take, drop}
 use Rattle.model.specs.Lists.{Bytes}
 use Rattle.records.specs.declared.Sender.{Sender}
 use Rattle.records.specs.declared.Queue.{Queue}
@@ -26,3 +27,9 @@ packetPart n length = record { header = false; start = n % 32 * 1_400; length = 
 -- 01, 'Added by design': "shown as a part of the outgoing store or of the header store"
 abbrev pub partBytes : Part → (outgoing headers : Bytes) → Bytes
 partBytes p outgoing headers = take (p .length) (drop (p .start) (cond (p .header) headers outgoing))
+
+-- the part that shows these bytes: they stand there, and all of it lies in its store, so that its length is theirs
+pub record PartOf (shown outgoing headers : Bytes) (p : Part) : Type 0 where
+  pub bytes : partBytes p outgoing headers ≡ shown
+  pub within : p .start + p .length ≤ length (cond (p .header) headers outgoing)
+  pub long : p .length ≡ length shown

@@ -5,7 +5,7 @@ ghost use Rattle.records.specs.Seen.{QueueFormed};
 ghost use Rattle.taking.specs.Take.{Stored};
 ghost use Rattle.broken_records.specs.Broken.{lent};
 ghost use Rattle.udx.specs.Look.{shownOf};
-ghost use Rattle.places.specs.Place.{FindsPlace, partBytes, headerPart, packetPart, noPart};
+ghost use Rattle.places.specs.Place.{FindsPlace, PartOf, headerPart, packetPart, noPart};
 use batching::left_entry;
 use broken_records::broken;
 use constants::OUTGOING_SLOT;
@@ -108,7 +108,7 @@ pub fn look_place(
     incoming: &[u8],
     headers: &[u8],
 ) -> Part
-    ensures { λ r. ⌜ partBytes r (now (outgoing .entry)) (now (headers .entry)) ≡ shownOf s t (lent (now (sent .entry)) (now (held .entry)) (now (queue .entry)) (now (outgoing .entry)) (now (incoming .entry)) (now (headers .entry))) ⌝ }
+    ensures { λ r. ⌜ PartOf (shownOf s t (lent (now (sent .entry)) (now (held .entry)) (now (queue .entry)) (now (outgoing .entry)) (now (incoming .entry)) (now (headers .entry)))) (now (outgoing .entry)) (now (headers .entry)) r ⌝ }
 {
     if broken(s, t, sent, held, queue, outgoing, incoming, headers) {
         return no_part();

@@ -174,7 +174,7 @@ same-from-c local remote segments clock l o h events d =
           λ v did e.
           (let q = one last (v .request) (v .step) (v .lent) (v .buf) (r .2) did in
           same .unbroken (eventOf v) (q .does) (q .broken e));
-      shown = λ part looks. looks .known (r .2) ∙ same .shown;
+      shown = λ part looks. rw (same .shown) at (looks .known (r .2));
     }
 
 -- lists of calls on two ends

@@ -13,7 +13,7 @@ use Rattle.promise.specs.Runs.{callOf, callsOf, answerOf, Same}
 use Rattle.promise.specs.TwoEndsOnRecords.{noted, Side, Brings, Carried}
 use Rattle.flat.specs.declared.structs.FlatStep.{FlatStep}
 use Rattle.udx_c.specs.declared.batches.FlatPart.{FlatPart}
-use Rattle.udx_c.specs.Shown.{bytesOf, Looks}
+use Rattle.udx_c.specs.Shown.{ShownBy, Looks}
 use Rattle.promise_ways.specs.Calls.{
   Plain,
   PlainEvent,
@@ -39,8 +39,8 @@ pub record SameInC (x : Plain) (e : End) : Type 0 where
   pub next : (v : PlainEvent) → PlainDid x v → answerOf (eventOf v) ≡ answer (callOf (v .request)) e
   -- 01, refusal 1: "(never so after calls from a fresh stream)"
   pub unbroken : (v : PlainEvent) → PlainDid x v → v .step .refusal ≡ 1 → ⊥
-  -- the part that `udx_look` names has the bytes that the model shows
-  pub shown : (part : FlatPart) → Looks (x .stream) (x .totals) (x .lent) part → bytesOf part (x .lent .outgoing) (x .lent .headers) ≡ look e
+  -- the part that `udx_look` names lies in its store and has just the bytes that the model shows
+  pub shown : (part : FlatPart) → Looks (x .stream) (x .totals) (x .lent) part → ShownBy (look e) (x .lent .outgoing) (x .lent .headers) part
 
 abbrev pub SameFromC : Type 0
 SameFromC =

@@ -3,11 +3,10 @@
 use mathlib.Core.Path.{_≡_, refl, ap, sym, _∙_}
 use mathlib.Core.Bool.{Bool, true, false, true≢false, cond}
 use lib.Dec.{eqb}
-use lib.ListN.{take, drop}
 use Rattle.model.specs.Lists.{Bytes}
 use Rattle.udx.specs.Look.{shownOf}
 use Rattle.places.specs.declared.Part.{Part}
-use Rattle.places.specs.Place.{partBytes}
+use Rattle.places.specs.Place.{PartOf}
 use Rattle.records.specs.declared.Stream.{Stream}
 use Rattle.records.specs.declared.Totals.{Totals}
 use Rattle.records.specs.Seen.{Lent}
@@ -19,7 +18,7 @@ use Rattle.flat.specs.Bytes.{isStrange}
 use Rattle.flat.specs.Flat.{streamOf, totalsOf, flatStep, brokenStep}
 use Rattle.udx_c.specs.declared.batches.FlatPart.{FlatPart}
 use Rattle.udx_c.specs.Crosses.{Crosses, Called}
-use Rattle.udx_c.specs.Shown.{noPart, flatPart, bytesOf, Looks}
+use Rattle.udx_c.specs.Shown.{noPart, flatPart, storeOf, Looks}
 
 -- a test that came out both ways
 pub both : {A : Type 0} (b : Bool) → b ≡ true → b ≡ false → A
@@ -44,19 +43,21 @@ module _ (s : FlatStream) (t : FlatTotals) (l : Lent) (r : FlatPart) where
   pub refused-looks : isStrange (s .ending) ≡ true → r ≡ noPart → Looks s t l r
   refused-looks e a = record { known = λ n. both (isStrange (s .ending)) e n; strange = λ y. a }
 
-  -- a part that became numbers shows the same bytes
-  same-bytes : (p : Part) (outgoing headers : Bytes) → bytesOf (flatPart p) outgoing headers ≡ partBytes p outgoing headers
-  same-bytes p outgoing headers = go (p .header)
+  -- a part that became numbers lies in the same store
+  same-store : (p : Part) (outgoing headers : Bytes) → storeOf (flatPart p) outgoing headers ≡ cond (p .header) headers outgoing
+  same-store p outgoing headers = go (p .header)
     where
-      go : (b : Bool)
-          → take (p .length) (drop (p .start) (cond (eqb (cond b 1 0) 1) headers outgoing)) ≡ take (p .length) (drop (p .start) (cond b headers outgoing))
+      go : (b : Bool) → cond (eqb (cond b 1 0) 1) headers outgoing ≡ cond b headers outgoing
       go true = refl
       go false = refl
 
   pub placed-looks : (p : Part) (stream : Stream) (totals : Totals) → isStrange (s .ending) ≡ false → stream ≡ streamOf s → totals ≡ totalsOf t
-      → partBytes p (l .outgoing) (l .headers) ≡ shownOf stream totals l → r ≡ flatPart p → Looks s t l r
+      → PartOf (shownOf stream totals l) (l .outgoing) (l .headers) p → r ≡ flatPart p → Looks s t l r
   placed-looks p stream totals e hs ht shows a =
+      let store = same-store p (l .outgoing) (l .headers) in
       record {
-        known = λ y. ap (λ (q : FlatPart). bytesOf q (l .outgoing) (l .headers)) a ∙ same-bytes p (l .outgoing) (l .headers) ∙ rw (hs, ht) at shows;
+        known =
+            λ y.
+            rw (a, ← hs, ← ht) (record { bytes = rw store (shows .bytes); within = rw store (shows .within); long = shows .long });
         strange = λ y. both (isStrange (s .ending)) y e;
       }
