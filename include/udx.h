@@ -21,7 +21,7 @@
  *     }
  *
  * THE ROUND OF A CALLER. Repeat:
- *   1. deliver each datagram that came in; write what is to be sent; read what can be read; close when nothing more is to be sent.
+ *   1. deliver each datagram that came; write what is to be sent; read until a read puts nothing; close when nothing more is to be sent.
  *   2. drive with the clock. UDX_DONE: the stream has ended and needs no further call.
  *   3. take until UDX_NONE, and send each batch. Until then write, deliver, drive and close answer refusal 6. Where stream.queue.left is 0
  *      the next take answers UDX_NONE, so that call can be saved.
@@ -63,7 +63,7 @@ enum {
 /* What a call answers: .outcome. */
 enum {
     UDX_OK = 0,     /* done as asked, with .count bytes accepted, taken or put */
-    UDX_WAIT = 1,   /* write: no room in the window now. read: nothing more in order now (.count bytes were put all the same) */
+    UDX_WAIT = 1,   /* write: no room now. read: no packet was finished, and there is no error (.count bytes were put all the same) */
     UDX_DONE = 2,   /* drive: the stream has ended: it has an error, and nothing is queued or stored any more */
     UDX_NONE = 3,   /* take: no batch of the last drive is left */
     UDX_REFUSED = 4 /* .refusal says why; nothing has changed, except that a read with 14 to 16 keeps the .count bytes it put */
@@ -71,7 +71,7 @@ enum {
 
 /* Why a call is refused: .refusal, 0 where it is not. Tested in this order. Beside each the calls that can answer it. */
 enum {
-    UDX_REFUSED_BROKEN_RECORDS = 1,    /* all: a store of another length, or numbers or words that no calls from a fresh stream lead to */
+    UDX_REFUSED_BROKEN_RECORDS = 1,    /* all but look, encode and decode: a store of another length, or a rule of the records broken */
     UDX_REFUSED_SHORT_BUFFER = 2,      /* encode with under 20 bytes, take with under 14,000 */
     UDX_REFUSED_SEGMENT_CEILING = 3,   /* open: outside 1 to 10 */
     UDX_REFUSED_BAD_CLOCK = 4,         /* open, deliver, drive: 2^60 or more, or below that of the last accepted call with one */
@@ -84,8 +84,9 @@ enum {
     UDX_REFUSED_SEQ_END = 11,          /* deliver: DATA numbered 4,294,967,295, which no packet is */
     UDX_REFUSED_PAST_INCOMING = 12,    /* deliver: DATA 32 or more past what the reader has reached; it comes again after a read */
     UDX_REFUSED_STATE_QUEUE_FULL = 13, /* deliver, close: drive and take first */
+    /* 14 to 16 say only that the stream has that error: a read that answers it may have put bytes, and more may be in order (udx_read) */
     UDX_REFUSED_RESET = 14,            /* write, read: this side was closed */
-    UDX_REFUSED_EOF = 15,              /* write, read: the other side was closed, and what came in order has been read */
+    UDX_REFUSED_EOF = 15,              /* write, read: the other side was closed */
     UDX_REFUSED_TIMED_OUT = 16,        /* write, read: a packet was sent too often without an answer */
     UDX_REFUSED_SEQ_EXHAUSTED = 17     /* write: no packet number is left */
 };
@@ -98,7 +99,8 @@ enum { UDX_BOTH_OPEN = 0, UDX_LOCAL_CLOSED = 1, UDX_REMOTE_CLOSED = 2, UDX_BOTH_
 
 /*
  * A stream's numbers. A caller hands each call those that the last one handed back, and reads them freely. With changed ones the next call
- * answers refusal 1 wherever the change breaks a rule of the records; it never does anything undefined.
+ * answers refusal 1 wherever the change breaks a rule of the records or leaves a byte of ending that stands for nothing; it never does
+ * anything undefined.
  */
 typedef struct udx_ids {
     uint32_t local, remote;
@@ -221,8 +223,11 @@ udx_part udx_look(udx_stream stream, udx_totals totals, const uint64_t *sent, co
                   size_t headers_length);
 
 /*
- * Puts bytes in order at the front of buf: count. A packet that does not fit gives its front part. UDX_OK where a packet was finished, else
- * the stream's error (14 to 16), else UDX_WAIT: count bytes were put in each case. What buf holds past count stays. Refusals 1, 14 to 16.
+ * Puts bytes in order at the front of buf: count. A packet longer than what remains of buf gives its front part and ends the read. UDX_OK
+ * where a packet was finished, else the stream's error (14 to 16), else UDX_WAIT: count bytes were put in each case, and more may be in
+ * order after each. So read again while count is not 0: 5 bytes read 2 at a time answer UDX_WAIT 2, UDX_WAIT 2, UDX_OK 1, and after an END
+ * 15 2, 15 2, UDX_OK 1. A read that puts nothing into a buf that is not empty has found nothing more. What buf holds past count stays.
+ * Refusals 1, 14 to 16.
  */
 udx_step udx_read(udx_stream stream, udx_totals totals, const uint64_t *sent, uint64_t *held, const uint64_t *queue, const uint8_t *outgoing,
                   size_t outgoing_length, const uint8_t *incoming, size_t incoming_length, const uint8_t *headers, size_t headers_length,

@@ -44,7 +44,7 @@ static void check_bytes(struct transfer *t, struct side *s, const struct source 
     s->wrong_at = s->read + at;
 }
 
-/* A read puts bytes also where it answers UDX_WAIT, so the count is looked at in each case. */
+/* Reads until a read puts nothing. A read puts bytes also where it answers UDX_WAIT, so the count is looked at in each case. */
 static void read_all(struct transfer *t, int i) {
     struct side *s = &t->side[i];
     udx_answer a;
@@ -53,7 +53,7 @@ static void read_all(struct transfer *t, int i) {
         check_bytes(t, s, &t->side[1 - i].source, a.count);
         checksum_add(&s->of_read, t->got, a.count);
         s->read += a.count;
-    } while (a.outcome == UDX_OK);
+    } while (a.count > 0);
 }
 
 /* A refused datagram is dropped: it is of an earlier stream, or it comes again. Any other refusal would be a mistake of this program. */

@@ -62,7 +62,7 @@ static bool write_file(struct sink *s, const uint8_t *bytes, size_t count) {
     return true;
 }
 
-/* Reads all that is in order. A read puts bytes whatever it answers: they count in each case. */
+/* Reads until a read puts nothing. A read puts bytes whatever it answers: they count in each case. */
 static void read_all(struct link *l, struct sink *s) {
     static uint8_t buf[UDX_INCOMING_STORE];
     udx_answer a;
@@ -71,7 +71,7 @@ static void read_all(struct link *l, struct sink *s) {
         size_t used = take_announcement(s, buf, a.count);
         bool is_right = s->file ? write_file(s, buf + used, a.count - used) : check_samples(s, buf + used, a.count - used);
         s->has_failed = !is_right;
-    } while (a.outcome == UDX_OK && !s->has_failed);
+    } while (a.count > 0 && !s->has_failed);
 }
 
 /* Until when the gateway waits for the next datagram: for the first one without end. */

@@ -32,7 +32,8 @@
 //!
 //! # The round of a caller
 //!
-//! 1. [Deliver](Stream::deliver) each datagram that came in, [write](Stream::write), [read](Stream::read), [close](Stream::close).
+//! 1. [Deliver](Stream::deliver) each datagram that came in, [write](Stream::write), [read](Stream::read) until a read puts nothing,
+//!    [close](Stream::close).
 //! 2. [Drive](Stream::drive) with the clock; with [`Driven::Done`] the stream needs no further call.
 //! 3. [Take](Stream::take) until `None`, and send each datagram. Until then writes, deliveries, drives and closes are refused.
 //! 4. While bytes still wait to be written: write again, and if any were accepted go on with 2. Acknowledged packets leave in the drive,

@@ -34,7 +34,8 @@ pub enum Refusal {
     PastIncoming = 12,
     /// No place for another state packet: drive and take first.
     StateQueueFull = 13,
-    /// This side was closed.
+    /// This side was closed. This and the next two say only that the stream has that error: a read that answers it may have put bytes, and
+    /// more may be in order.
     ConnectionReset = 14,
     /// The other side was closed.
     UnexpectedEof = 15,

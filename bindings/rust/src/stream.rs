@@ -15,7 +15,7 @@ pub const TAKE_ROOM: usize = 14_000;
 pub enum Written {
     /// So many bytes from the front were accepted; the others are to be written again later.
     Accepted(usize),
-    /// No room in the window now.
+    /// No room now, in the window or beside 32 packets that are not acknowledged.
     Wait,
 }
 
@@ -29,15 +29,17 @@ pub enum Driven {
     Done,
 }
 
-/// What a read answers. In each case so many bytes were put at the front of the buffer.
+/// What a read answers. In each case so many bytes were put at the front of the buffer, and more may be in order: a packet longer than what
+/// remains of the buffer gives its front part and is not finished. So read again while the count is not 0. A read that puts nothing into a
+/// buffer that is not empty has found nothing more.
 #[derive(Clone, Copy, Debug, PartialEq, Eq)]
 #[must_use]
 pub enum Read {
-    /// A packet was finished; read again for more.
+    /// A packet was finished.
     Ready(usize),
-    /// Nothing more is there in order now.
+    /// No packet was finished, and the stream has no error.
     Wait(usize),
-    /// The stream has this error, and nothing more is there in order.
+    /// No packet was finished, and the stream has this error.
     Ended(usize, Refusal),
 }
 
@@ -366,7 +368,8 @@ impl Stream {
         }
     }
 
-    /// Puts bytes in order at the front of `buf`. A packet that does not fit gives its front part. What `buf` holds past the count stays.
+    /// Puts bytes in order at the front of `buf`. A packet that does not fit gives its front part: 5 bytes read 2 at a time answer
+    /// `Wait(2)`, `Wait(2)`, `Ready(1)`. Read again while the count is not 0. What `buf` holds past the count stays.
     ///
     /// ```
     /// # use std::time::Duration;

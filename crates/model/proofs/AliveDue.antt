@@ -11,7 +11,7 @@ use mathlib.Core.List.{[], _∷_, List·Memᴰ, List·Memᴰ·head, Memᴰ·appe
 use mathlib.Core.Option.{Option, none, some}
 use mathlib.Core.Bool.{Bool, true, false, cond, true≢false}
 use lib.Dec.{ltb}
-use borrow.Author.Tests.{le-leb, eq-eqb}
+use borrow.Author.Tests.{le-leb, eq-eqb, ltb-true}
 use lib.ListN.{length, getD}
 use Rattle.error.specs.declared.UdxError.the-variants as error
 use Rattle.error.specs.declared.Outcome.the-variants.{Ready, Done}
@@ -23,7 +23,7 @@ use Rattle.model.specs.Rules.{sum, inflightOf}
 use Rattle.model.specs.Sending.{terminate}
 use Rattle.model.specs.Driving.{lostMarks, marked, lost, flushed, fits, settle, dueEnd, Passed, timeOutPacket, timeOutLoop, timeOutEnd, checkTimeouts, flushLoop, flush, drained, driveClock, ended, leftToTake, pollDrive, driveRefusal, drive}
 use Rattle.model.specs.Calls.{after}
-use Rattle.model.specs.Alive.{DueDrive}
+use Rattle.model.specs.Alive.{Exhausted, DueDrive}
 use Rattle.model.proofs.Lists.{by-test}
 use Rattle.model.proofs.Gate.{by-gate}
 use Rattle.model.proofs.Slots.{no-some, some-inj, one-number, insert-length, insert-same, insert-other, insert-none, insert-cases}
@@ -78,6 +78,38 @@ all-wait a (suc k) m e l w = go (get (e .sender .outgoing) m) refl (λ x l w f n
             → ((n ≡ m) × (marked lostMarks p ≡ r)) ⊎ ((n ≢ m) × (get (e .sender .outgoing) n ≡ some r)) → r .marks .waiting ≡ true
         loses n r x y (inl (d, q)) = subst (λ (u : Packet). u .marks .waiting ≡ true) q refl
         loses n r x y (inr (d, q)) = w n r x (omega arith) q
+
+-- a pass fails on a packet that it had not reached before, so that one is as it was when the pass began
+abbrev FailsFrom : ℕ → Slots Packet → Type 0
+FailsFrom m s = (j : ℕ) × (q : Packet) × (m ≤ j) × (get s j ≡ some q) × (q .marks .waiting ≡ false) × (5 < q .marks .transmits)
+
+fails-why : (k m : ℕ) (e : End) → length (e .sender .outgoing) ≡ ceiling → (timeOutLoop k m e) .failed ≡ true → FailsFrom m (e .sender .outgoing)
+unfolding timeOutLoop timeOutPacket
+fails-why zero m e l = λ f. absurd (true≢false (sym f))
+fails-why (suc k) m e l = go (get (e .sender .outgoing) m) refl (λ x l f. fails-why k (suc m) x l f)
+  where
+    Q : Passed → Type 0
+    Q t = (cond (t .failed) t (timeOutLoop k (suc m) (t .end))) .failed ≡ true → FailsFrom m (e .sender .outgoing)
+
+    go : (o : Option Packet) → get (e .sender .outgoing) m ≡ o
+        → ((x : End) → length (x .sender .outgoing) ≡ ceiling → (timeOutLoop k (suc m) x) .failed ≡ true → FailsFrom (suc m) (x .sender .outgoing))
+        → Q (on o (record { failed = false; end = e }) (λ p. timeOutPacket m p e))
+    go none z rec = λ f. let (j, q, a, b, c, d) = rec e l f in (j, q, omega arith, b, c, d)
+    go (some p) z rec =
+        by-test Q (p .marks .waiting) (record { failed = false; end = e })
+        (cond (ltb 5 (p .marks .transmits)) (record { failed = true; end = e }) (record { failed = false; end = lost m p e }))
+        (λ v f. let (j, q, a, b, c, d) = rec e l f in (j, q, omega arith, b, c, d))
+        (λ v.
+        by-test Q (ltb 5 (p .marks .transmits)) (record { failed = true; end = e }) (record { failed = false; end = lost m p e })
+        (λ t f. (m, p, le-refl m, z, v, ltb-true 5 (p .marks .transmits) t))
+        (λ t f.
+        let (j, q, a, b, c, d) = rec (lost m p e) (insert-length (e .sender .outgoing) m (marked lostMarks p) ∙ l) f in
+        (j, q, omega arith, before j q a (insert-cases (e .sender .outgoing) m j (marked lostMarks p) q l b), c, d)))
+      where
+        before : (j : ℕ) (q : Packet) → suc m ≤ j → ((j ≡ m) × (marked lostMarks p ≡ q)) ⊎ ((j ≢ m) × (get (e .sender .outgoing) j ≡ some q))
+            → get (e .sender .outgoing) j ≡ some q
+        before j q a (inl (d, x)) = absurd (omega arith)
+        before j q a (inr (d, x)) = x
 
 -- the same packets are stored, with the same bytes
 abbrev Same : ℕ → Option Packet → Slots Packet → Type 0
@@ -230,6 +262,12 @@ module _ (clock : ℕ) (s : End) (d : Driving 0 s) (n : ℕ) (p : Packet) (z : g
           by-test Q (ltb 5 (p .marks .transmits)) (record { failed = true; end = e }) (record { failed = false; end = lost m p e }) (λ t. (refl, refl))
           (λ t. rec (lost m p e)))
 
+  exhausts : passed .failed ≡ true → Exhausted (s .sender .outgoing)
+  unfolding passed
+  exhausts f =
+      let (j, q, a, b, c, e) = fails-why (s .sender .seq - s .sender .remoteAcked) (s .sender .remoteAcked) (dueEnd clock s) (d .facts .slots) f in
+      record { number = j; packet = q; stored = b; sent = c; tries = e }
+
   flushes : passed .failed ≡ false → List·Memᴰ (packet n (length (p .bytes))) ((flush (passed .end)) .queue .entries)
   unfolding flush passed
   flushes f =
@@ -273,16 +311,18 @@ due-drive local remote segments open-clock o calls clock ready is-due n p z lowe
     let (y, d) = driving-start clock e (calls-keep calls (fresh local remote segments open-clock) (open-keeps local remote segments open-clock o)) clear in
     let s = settle clock (driveClock clock e) in
     let g = driving-settle clock (driveClock clock e) y d in
-    subst (λ (x : End). Q x) (sym is) (rw is-due (ends s g (passed clock s g n p z lowest) (flushes clock s g n p z lowest)))
+    subst (λ (x : End). Q x) (sym is) (rw is-due (ends s g (passed clock s g n p z lowest) (exhausts clock s g n p z lowest) (flushes clock s g n p z lowest)))
   where
     Q : End → Type 0
-    Q x = (x .ending .error ≡ error.TimedOut) ⊎ List·Memᴰ (packet n (length (p .bytes))) (x .queue .entries)
+    Q x = ((x .ending .error ≡ error.TimedOut) × Exhausted (settle clock (driveClock clock (after calls (fresh local remote segments open-clock))) .sender .outgoing)) ⊎ List·Memᴰ (packet n (length (p .bytes))) (x .queue .entries)
 
-    ends : (s : End) (g : Driving 0 s) (t : Passed) → (t .failed ≡ false → List·Memᴰ (packet n (length (p .bytes))) ((flush (t .end)) .queue .entries))
+    ends : (s : End) (g : Driving 0 s) (t : Passed)
+        → (t .failed ≡ true → Exhausted (settle clock (driveClock clock (after calls (fresh local remote segments open-clock))) .sender .outgoing))
+        → (t .failed ≡ false → List·Memᴰ (packet n (length (p .bytes))) ((flush (t .end)) .queue .entries))
         → Q (leftToTake (flush (timeOutEnd t)))
-    ends s g t h =
+    ends s g t w h =
         by-test (λ (x : End). Q (leftToTake (flush x))) (t .failed) (terminate error.TimedOut (t .end)) (t .end)
         (λ f.
         let x = terminate error.TimedOut (t .end) in
-        inl (ap (λ (v : Ending). v .error) (flush-ending (x .sender .seq - x .sender .remoteAcked) (x .sender .remoteAcked) x)))
+        inl (ap (λ (v : Ending). v .error) (flush-ending (x .sender .seq - x .sender .remoteAcked) (x .sender .remoteAcked) x), w f))
         (λ f. inr (h f))

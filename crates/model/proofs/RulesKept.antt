@@ -16,7 +16,7 @@ use Rattle.model.specs.Lists.{on}
 use Rattle.model.specs.Slots.{Slots, Numbered, ceiling, get}
 use Rattle.model.specs.Stream.{Packet, Held, Entry, state, packet, Sender, Queue, End}
 use Rattle.model.specs.Rules
-use Rattle.model.specs.RulesKept.{StoredKept, HeldKept, Every, EntryKept, RestKept, ToTakeKept, Kept}
+use Rattle.model.specs.RulesKept.{StoredKept, HeldKept, Every, EntryKept, RestKept, ToTakeKept, KeepsRules}
 use Rattle.model.proofs.Slots.{no-some, some-inj}
 use Rattle.model.proofs.SlotSums.{every-slot}
 use Rattle.model.proofs.SlotNumbers.{slot-passes}
@@ -151,7 +151,7 @@ queue-said s q f g = go (ℕ-discrete (q .left) 0)
 
 -- all of them
 
-pub rules-say : (e : End) → Rules.rules e ≡ true → Kept e
+pub rules-say : (e : End) → Rules.rules e ≡ true → KeepsRules e
 unfolding Rules.rules
 rules-say e h =
     let (senders, h₁) = both h in
@@ -203,7 +203,7 @@ rules-say e h =
       to-take = q₂;
     }
 
-pub rules-said : (e : End) → Kept e → Rules.rules e ≡ true
+pub rules-said : (e : End) → KeepsRules e → Rules.rules e ≡ true
 unfolding Rules.rules
 rules-said e k =
     and-true (and-true (le-leb _ _ (k .acked-seq)) (and-true (le-leb _ _ (k .seq-near)) (le-leb _ _ (k .largest-seq))))

@@ -12,7 +12,7 @@ use Rattle.error.specs.declared.UdxError.the-variants.{TimedOut}
 use Rattle.error.specs.declared.Outcome.the-variants.{Ready}
 use Rattle.packet.specs.Blocks.{Span}
 use Rattle.model.specs.Lists.{Bytes}
-use Rattle.model.specs.Slots.{ceiling, get}
+use Rattle.model.specs.Slots.{Slots, ceiling, get}
 use Rattle.model.specs.Stream.{Packet, packet, End, fresh}
 use Rattle.model.specs.Sending.{openRefusal, write}
 use Rattle.model.specs.Receiving.{ackBlocks, deliver, read}
@@ -47,8 +47,16 @@ CarriedOnce =
     let r = read 1_380 (h .end) in
     (w .outcome ≡ Ready) × (d .outcome ≡ Ready) × (t .outcome ≡ Ready) × (h .outcome ≡ Ready) × (r .outcome ≡ Ready) × (r .bytes ≡ bytes)
 
--- A drive whose timer is due once the acks are settled, on a stream that then stores a packet, fails with TimedOut or queues the
--- lowest one.
+-- A packet that a due drive fails on: "each stored packet not waiting, ascending, fails with TimedOut if transmits exceeds 5"
+pub record Exhausted (s : Slots Packet) : Type 0 where
+  pub number : ℕ
+  pub packet : Packet
+  pub stored : get s number ≡ some packet
+  pub sent : packet .marks .waiting ≡ false
+  pub tries : 5 < packet .marks .transmits
+
+-- A drive whose timer is due once the acks are settled, on a stream that then stores a packet, fails with TimedOut on one that was sent
+-- too often, or queues the lowest one.
 abbrev pub DueDrive : Type 0
 DueDrive =
     (local remote segments clock : ℕ)
@@ -62,7 +70,7 @@ DueDrive =
     → (n : ℕ) (p : Packet)
     → get (s .sender .outgoing) n ≡ some p
     → ((m : ℕ) → m < n → get (s .sender .outgoing) m ≡ none)
-    → (d .end .ending .error ≡ TimedOut) ⊎ List·Memᴰ (packet n (length (p .bytes))) (d .end .queue .entries)
+    → ((d .end .ending .error ≡ TimedOut) × Exhausted (s .sender .outgoing)) ⊎ List·Memᴰ (packet n (length (p .bytes))) (d .end .queue .entries)
 
 -- SACK blocks take just their numbers out of the store, "end excluded".
 abbrev pub covers : List Span → ℕ → Bool

@@ -134,7 +134,7 @@ onData h payload e =
     (sendStatePacket (withTotals (countData (length payload) (e .totals)) (withReceiver (absorb (h .seq) payload (e .receiver)) e)))
     e
 
--- "the largest ack since the last drive" (poll_incoming), and 01, call 3: "If the header's ack exceeds remote acked, the window
+-- "largest ack since the last drive" (poll_incoming), and 01, call 3: "If the header's ack exceeds remote acked, the window
 -- grows"
 abbrev pub onAckSender : Header → Sender → Sender
 onAckSender h s =

@@ -47,7 +47,7 @@ pub record ToTakeKept (q : Queue) : Type 0 where
   pub states : states (q .entries) ≤ 64
   pub packets : length (numbers (q .entries)) ≤ 64
 
-pub record Kept (e : End) : Type 0 where
+pub record KeepsRules (e : End) : Type 0 where
   pub acked-seq : e .sender .remoteAcked ≤ e .sender .seq
   pub seq-near : e .sender .seq ≤ e .sender .remoteAcked + ceiling
   pub largest-seq : e .sender .largestAck ≤ e .sender .seq

@@ -50,7 +50,7 @@ createHeader typ e =
 abbrev pub createPacket : ℕ → Bytes → End → Bytes
 createPacket typ payload e = headerBytes (createHeader typ e) ++ payload
 
--- Packet::new: "waiting: false, transmits: 0, time_sent: empty"
+-- Packet::new: not waiting, transmits 0, no time sent
 abbrev pub newMarks : Marks
 newMarks = record { waiting = false; transmits = 0; sent = none }
 

@@ -44,7 +44,7 @@ clockedStream s clock =
       clocks = record { last = nanos clock; drive = s .clocks .drive };
     }
 
--- "the largest ack since the last drive", and 01, call 3: "If the header's ack exceeds remote acked, the window grows"
+-- "largest ack since the last drive", and 01, call 3: "If the header's ack exceeds remote acked, the window grows"
 abbrev pub ackedSender : Sender → ℕ → Sender
 ackedSender s ack =
     record {

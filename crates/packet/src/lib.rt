@@ -5,6 +5,5 @@ mod sack;
 
 pub use header::Decoded;
 pub use header::Header;
-pub use little_endian::read_u32_le;
 pub use sack::Block;
 pub use sack::block_at;

@@ -23,10 +23,14 @@ struct Sums {
 }
 
 // "neither a time sent .. is past the last clock"
-fn in_time(p: Sent, clock: u64) -> bool
-    ensures { λ r. ⌜ r ≡ inTime p clock ⌝ }
+fn in_time(p: Sent, clock: Nanos) -> bool
+    ensures { λ r. ⌜ r ≡ inTime p (clock .0) ⌝ }
 {
-    if p.timed { p.sent_at.0 <= clock } else { true }
+    if p.timed {
+        p.sent_at.0 <= clock.0
+    } else {
+        true
+    }
 }
 
 // A packet that breaks a rule ends the pass.
@@ -42,9 +46,9 @@ fn broken() -> Sums
 }
 
 // The stored packets lie from acked to below seq, each in the slot of its number.
-fn stored(acked: u32, seq: u32, clock: u64, sent: &[u64; 64]) -> Sums
+fn stored(acked: u32, seq: u32, clock: Nanos, sent: &[u64; 64]) -> Sums
     requires { ⌜ seq ≤ acked + 32 ⌝ }
-    ensures { λ r. ⌜ StoredSums acked seq clock (now (sent .entry)) (r .good) (r .inflight) (r .packets) (r .bytes) ⌝ }
+    ensures { λ r. ⌜ StoredSums acked seq (clock .0) (now (sent .entry)) (r .good) (r .inflight) (r .packets) (r .bytes) ⌝ }
 {
     let mut inflight: u64 = 0;
     let mut packets: u64 = 0;
@@ -88,7 +92,7 @@ pub fn ok_sender(s: Sender, t: Totals, clock: Nanos, sent: &[u64; 64]) -> bool
     if seq - acked > STORE_SLOTS {
         return false;
     }
-    let found = stored(acked, seq, clock.0, sent);
+    let found = stored(acked, seq, clock, sent);
     // "the largest ack is at most seq"
     let largest = s.largest_ack <= seq;
     // "inflight is the sum of lengths of stored packets not waiting"

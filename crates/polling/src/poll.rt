@@ -9,7 +9,7 @@ use settling::Polled;
 use settling::handle_incoming_max_remote_ack;
 use timeouts::poll_check_timeouts;
 
-// "an accepted drive .. is the last call with a clock and the last drive"
+// An accepted drive is the last call with a clock and the last drive.
 pub fn clocked(s: Stream, clock: Nanos) -> Stream
     ensures { λ r. ⌜ r ≡ drivenAt (clock .0) s ⌝ }
 {

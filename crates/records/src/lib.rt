@@ -69,7 +69,7 @@ pub struct Queue {
     pub gone: u32,
 }
 
-// When the retransmission timer is due: a type of its own, read by `due` alone.
+// When the retransmission timer is due: a type of its own, which only the crate timer compares with a clock.
 pub struct Deadline(pub Nanos);
 
 pub struct Timing {

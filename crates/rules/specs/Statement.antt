@@ -9,7 +9,7 @@ use mathlib.Core.Bool.{true, _&&_}
 use lib.ListN.{length}
 use Rattle.model.specs.Stream.{fresh}
 use Rattle.model.specs.Rules.{rules}
-use Rattle.model.specs.RulesKept.{Kept}
+use Rattle.model.specs.RulesKept.{KeepsRules}
 use Rattle.model.specs.Sending.{openRefusal}
 use Rattle.model.specs.Calls.{Call, after}
 use Rattle.records.specs.declared.Stream.{Stream}
@@ -25,7 +25,7 @@ RefusalOne =
     → okStream s t (l .sent) (l .held) (l .queue) ≡ (formed s (l .queue) && rules (seen s t l))
 
 -- 01, refusal 1: "(never so after calls from a fresh stream)". Records that are laid out and are seen as the end after any list of calls
--- keep every rule, each a field of `Kept`, and refusal 1 does not come.
+-- keep every rule, each a field of `KeepsRules`, and refusal 1 does not come.
 abbrev pub NeverRefused : Type 0
 NeverRefused =
     (local remote segments clock : ℕ)
@@ -35,4 +35,4 @@ NeverRefused =
     → length (l .queue) ≡ 128
     → formed s (l .queue) ≡ true
     → seen s t l ≡ after calls (fresh local remote segments clock)
-    → Kept (seen s t l) × (okStream s t (l .sent) (l .held) (l .queue) ≡ true)
+    → KeepsRules (seen s t l) × (okStream s t (l .sent) (l .held) (l .queue) ≡ true)

@@ -5,6 +5,8 @@ use mathlib.Core.Path.{_≡_, refl, ap}
 use mathlib.Core.Bool.{Bool, true, false, cond, _&&_, not}
 use lib.Dec.{leb, eqb}
 use borrow.Author.Tests.{le-leb, lt-leb}
+use Rattle.rtt.specs.declared.nanos.Nanos.{Nanos}
+use Rattle.rtt.specs.Estimate.{nanos}
 use Rattle.rtt.specs.Window.{halved}
 use Rattle.model.specs.Driving.{due, restarted}
 use Rattle.records.specs.declared.Timing.{Timing}
@@ -34,7 +36,8 @@ windowed s cwnd e = record { seen = λ sent outgoing. ap (λ (w : ℕ). seenSend
 
 -- the deadline after settling
 
-pub restarted-is : (clock : ℕ) (moved : Bool) (t : Timing) → withDeadline (cond moved (clock + t .rtt .rto .0) (t .deadline .0 .0)) (timingSeen t) ≡ restarted clock moved (timingSeen t)
+pub restarted-is : (clock : ℕ) (moved : Bool) (t : Timing) (at : Nanos) → at ≡ cond moved (nanos (clock + t .rtt .rto .0)) (t .deadline .0)
+    → withDeadline (at .0) (timingSeen t) ≡ restarted clock moved (timingSeen t)
 unfolding restarted
-restarted-is clock true t = refl
-restarted-is clock false t = refl
+restarted-is clock true t at e = rw e refl
+restarted-is clock false t at e = rw e refl

@@ -21,11 +21,11 @@ pub fn due(t: Timing, clock: Nanos, s: Sender) -> bool
 }
 
 // The timing with another deadline.
-fn with_deadline(t: Timing, at: u64) -> Timing
-    ensures { λ r. ⌜ timingSeen r ≡ withDeadline at (timingSeen t) ⌝ }
+fn with_deadline(t: Timing, at: Nanos) -> Timing
+    ensures { λ r. ⌜ timingSeen r ≡ withDeadline (at .0) (timingSeen t) ⌝ }
 {
     let rtt = t.rtt;
-    let deadline = Deadline(Nanos(at));
+    let deadline = Deadline(at);
     Timing { rtt, deadline }
 }
 
@@ -35,11 +35,11 @@ pub fn backed_off(t: Timing, clock: Nanos) -> Timing
     ensures { λ r. ⌜ timingSeen r ≡ model.backedOff (clock .0) (timingSeen t) ⌝ }
 {
     let at = clock.0 + 2 * t.rtt.rto.0;
-    with_deadline(t, at)
+    with_deadline(t, Nanos(at))
 }
 
 // One of two instants.
-fn pick(t: bool, a: u64, b: u64) -> u64
+fn pick(t: bool, a: Nanos, b: Nanos) -> Nanos
     ensures { λ r. ⌜ r ≡ cond t a b ⌝ }
 {
     if t { a } else { b }
@@ -50,8 +50,8 @@ pub fn restarted(t: Timing, clock: Nanos, moved: bool) -> Timing
     requires { ⌜ (t .rtt .rto .0 ≤ 5 * 2 ^ 60) × (clock .0 < 2 ^ 60) ⌝ }
     ensures { λ r. ⌜ timingSeen r ≡ model.restarted (clock .0) moved (timingSeen t) ⌝ }
 {
-    let next = clock.0 + t.rtt.rto.0;
-    let old = t.deadline.0.0;
+    let next = Nanos(clock.0 + t.rtt.rto.0);
+    let old = t.deadline.0;
     with_deadline(t, pick(moved, next, old))
 }
 

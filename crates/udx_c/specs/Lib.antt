@@ -1,3 +1,4 @@
 pub mod Coded
 pub mod Crosses
+pub mod Layout
 pub mod Shown

@@ -1,4 +1,8 @@
 // How the structs lie in memory, as this archive reads and writes them: a binding in any language can compare it with its own.
+ghost use mathlib.Core.Path.{_≡_};
+ghost use mathlib.Core.List.{_++_};
+ghost use lib.ListN.{replicate};
+ghost use Rattle.udx_c.specs.Layout.{streamFields, totalsFields, stepFields, countFrom};
 use flat::FlatClocks;
 use flat::FlatEnding;
 use flat::FlatIds;
@@ -17,7 +21,9 @@ pub struct Numbers {
 
 // The fields of a stream in their order, as they were received.
 #[no_mangle]
-pub extern "C" fn udx_layout_stream(s: FlatStream) -> Numbers {
+pub extern "C" fn udx_layout_stream(s: FlatStream) -> Numbers
+    ensures { λ r. ⌜ r .n ≡ streamFields s ⌝ }
+{
     let i = s.ids;
     let a = s.sender;
     let b = s.receiver;
@@ -57,7 +63,9 @@ pub extern "C" fn udx_layout_stream(s: FlatStream) -> Numbers {
 
 // The same for totals, after a stream; the numbers past them are 0.
 #[no_mangle]
-pub extern "C" fn udx_layout_totals(s: FlatStream, t: FlatTotals) -> Numbers {
+pub extern "C" fn udx_layout_totals(s: FlatStream, t: FlatTotals) -> Numbers
+    ensures { λ r. ⌜ r .n ≡ totalsFields t ++ replicate 18 0 ⌝ }
+{
     Numbers {
         n: [
             t.tx_packets,
@@ -88,7 +96,9 @@ pub extern "C" fn udx_layout_totals(s: FlatStream, t: FlatTotals) -> Numbers {
     }
 }
 
-fn counted_stream() -> FlatStream {
+fn counted_stream() -> FlatStream
+    ensures { λ r. ⌜ streamFields r ≡ countFrom 24 1 ⌝ }
+{
     let ids = FlatIds {
         local: 1,
         remote: 2,
@@ -140,7 +150,9 @@ fn counted_stream() -> FlatStream {
 
 // A step whose fields are 1, 2, 3 and so on in their order.
 #[no_mangle]
-pub extern "C" fn udx_layout_step() -> FlatStep {
+pub extern "C" fn udx_layout_step() -> FlatStep
+    ensures { λ r. ⌜ stepFields r ≡ countFrom 34 1 ⌝ }
+{
     let stream = counted_stream();
     let totals = FlatTotals {
         tx_packets: 25,

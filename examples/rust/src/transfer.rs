@@ -244,7 +244,7 @@ impl Transfer {
 
     // 1. What came in is delivered and read.
 
-    /// A read puts bytes also where it answers `Wait`, so the count is looked at in each case.
+    /// Reads until a read puts nothing. A read puts bytes also where it answers `Wait`, so the count is looked at in each case.
     fn read_all(&mut self, i: usize) -> Result<(), Failure> {
         let [hub, gateway] = &mut self.sides;
         let (side, other) = if i == HUB { (hub, gateway) } else { (gateway, hub) };
@@ -255,8 +255,8 @@ impl Transfer {
             side.of_read.add(got);
             side.read += got.len() as u64;
             match answer {
-                Read::Ready(_) => {}
-                Read::Wait(_) => return Ok(()),
+                Read::Ready(0) | Read::Wait(0) => return Ok(()),
+                Read::Ready(_) | Read::Wait(_) => {}
                 Read::Ended(_, why) => return Err(refused("read")(why)),
             }
         }

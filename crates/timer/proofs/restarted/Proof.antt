@@ -1,16 +1,14 @@
 -- `timer::restarted` meets its contract: the deadline that is picked is the model's. Assumes nothing.
-use mathlib.Core.Path.{ap, _∙_}
-use Prim.Native.Nat.{ℕ}
+use mathlib.Core.Path.{_∙_}
 use borrow.Author.Needs.{needs}
-use Rattle.timer.specs.Timer.{timingSeen, withDeadline}
 use Rattle.timer.proofs.TimerLaws.{restarted-is}
 use Rattle.timer.proofs.restarted.Statement.{statement}
 use Rattle.timer.proofs.restarted.Tie as tie
 
 returns : tie.Need-returns
 returns c =
-    let t = c .before .before .before .before .args .t in
-    c .with-deadline .ensures ∙ ap (λ (at : ℕ). withDeadline at (timingSeen t)) (c .before .pick .ensures) ∙ restarted-is _ _ t
+    let t = c .before .before .before .before .before .args .t in
+    c .with-deadline .ensures ∙ restarted-is _ _ t (c .before .pick .result) (c .before .pick .ensures)
 
 pub restarted-spec : {M : Type 1} → statement M
 restarted-spec = tie.close (tie.spec

@@ -1,4 +1,4 @@
--- `rules::receiver::all_held` meets its contract: the packets below n keep their rules, so the rest decides.
+-- `packet_rules::receiver::all_held` meets its contract: the packets below n keep their rules, so the rest decides.
 -- Assumes nothing.
 use Prim.Native.Nat.{_-_, _≤_}
 use native.Mathlib.Omega.{arith}

@@ -1,4 +1,4 @@
--- `rules::receiver::ok_receiver` meets its contract: the tests one after the other, with what the pass found.
+-- `packet_rules::receiver::ok_receiver` meets its contract: the tests one after the other, with what the pass found.
 -- Assumes nothing.
 use native.Mathlib.Omega.{arith}
 use Rattle.packet_rules.proofs.Held.{far, near}

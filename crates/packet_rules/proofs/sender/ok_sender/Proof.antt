@@ -1,4 +1,4 @@
--- `rules::sender::ok_sender` meets its contract: the tests one after the other, with what the pass found.
+-- `packet_rules::sender::ok_sender` meets its contract: the tests one after the other, with what the pass found.
 -- Assumes nothing.
 use native.Mathlib.Omega.{arith}
 use Rattle.packet_rules.proofs.Stored.{below, far, near}

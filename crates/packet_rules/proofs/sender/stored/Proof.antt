@@ -1,4 +1,4 @@
--- `rules::sender::stored` meets its contract: what was found below n, with what the numbers from n on add to it, is what all of them add up to.
+-- `packet_rules::sender::stored` meets its contract: what was found below n, with what the numbers from n on add to it, is what all of them add up to.
 -- Assumes nothing.
 use Prim.Native.Nat.{_-_}
 use native.Mathlib.Omega.{arith}
@@ -10,7 +10,7 @@ use Rattle.packet_rules.proofs.sender.stored.Tie as tie
 
 abbrev Inv-loop : tie.InvT-loop
 Inv-loop acked seq clock sent inflight₀ packets₀ lengths₀ n₀ inflight packets lengths n =
-    Going acked seq clock sent n inflight packets lengths
+    Going acked seq (clock .0) sent n inflight packets lengths
 
 abbrev μ-loop : tie.MeasureT-loop
 μ-loop acked seq clock sent inflight₀ packets₀ lengths₀ n₀ inflight packets lengths n = seq - n
@@ -26,7 +26,7 @@ loop-again c =
     let l = i .before .before .before .before .loop in
     let a = i .before .before .before .before .before in
     let kept =
-    kept-by (a .args .sent .now) (l .n) (a .args .clock) (p .result) _ _ _ _ (p .ensures) (i .is-sized .ensures) (b .before .before .both .ensures) (b .before .in-time .ensures)
+    kept-by (a .args .sent .now) (l .n) (a .args .clock .0) (p .result) _ _ _ _ (p .ensures) (i .is-sized .ensures) (b .before .before .both .ensures) (b .before .in-time .ensures)
     (b .both2 .ensures) in
     turn _ _ _ _ (l .n) (l .inflight) (l .packets) (l .lengths) (p .result) (l .inv) (p .ensures)
     (i .before .before .before .loop-test .taken)
@@ -46,7 +46,7 @@ returns c =
     let a = i .before .before .before .before .before in
     let r = c .broken .result in
     let kept =
-    kept-by (a .args .sent .now) (l .n) (a .args .clock) (p .result) _ _ _ _ (p .ensures) (i .is-sized .ensures) (b .before .before .both .ensures) (b .before .in-time .ensures)
+    kept-by (a .args .sent .now) (l .n) (a .args .clock .0) (p .result) _ _ _ _ (p .ensures) (i .is-sized .ensures) (b .before .before .both .ensures) (b .before .in-time .ensures)
     (b .both2 .ensures) in
     ended _ _ _ _ (r .good) (r .inflight) (r .packets) (r .bytes) (c .broken .ensures)
     (stop _ _ _ _ (l .n) (l .inflight) (l .packets) (l .lengths) (p .result) (l .inv) (p .ensures)

@@ -1,4 +1,4 @@
--- `rules::queue::entries` meets its contract: what was found below i, with what the entries from i on add to it, is what all of them have.
+-- `queue_rules::queue::entries` meets its contract: what was found below i, with what the entries from i on add to it, is what all of them have.
 -- Assumes nothing.
 use Prim.Native.Nat.{_-_}
 use mathlib.Core.Path.{sym, _∙_}

@@ -1,4 +1,4 @@
--- `rules::queue::ok_queue` meets its contract: the tests one after the other, with what the pass found.
+-- `queue_rules::queue::ok_queue` meets its contract: the tests one after the other, with what the pass found.
 -- Assumes nothing.
 use native.Mathlib.Omega.{arith}
 use Rattle.queue_rules.proofs.Queued.{too-many, too-few, passed}

@@ -1,4 +1,4 @@
--- `rules::queue::plain` meets its contract: the tests one after the other.
+-- `queue_rules::queue::plain` meets its contract: the tests one after the other.
 -- Assumes nothing.
 use borrow.Author.Needs.{needs}
 use Rattle.queue_rules.proofs.queue.plain.Statement.{statement}

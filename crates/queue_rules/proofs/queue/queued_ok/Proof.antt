@@ -1,4 +1,4 @@
--- `rules::queue::queued_ok` meets its contract: the tests one after the other, on the packet in the slot of the number.
+-- `queue_rules::queue::queued_ok` meets its contract: the tests one after the other, on the packet in the slot of the number.
 -- Assumes nothing.
 use borrow.Author.Needs.{needs}
 use Rattle.queue_rules.proofs.queue.queued_ok.Statement.{statement}
