@@ -21,7 +21,7 @@
  *     }
  *
  * THE ROUND OF A CALLER. Repeat:
- *   1. deliver each datagram that came; write what is to be sent; read until a read puts nothing; close when nothing more is to be sent.
+ *   1. deliver each datagram that came; read until a read puts nothing; write what is to be sent.
  *   2. drive with the clock. UDX_DONE: the stream has ended and needs no further call.
  *   3. take until UDX_NONE, and send each batch. Until then write, deliver, drive and close answer refusal 6. Where stream.queue.left is 0
  *      the next take answers UDX_NONE, so that call can be saved.
@@ -29,6 +29,16 @@
  *      there is where room comes from, and a caller that waits before it has written into that room may wait for ever.
  *   5. wait for a datagram, for bytes to write, or, while stream.sender.remote_acked differs from stream.sender.seq, until the clock is
  *      stream.timing.deadline: a drive at or past it sends unacknowledged packets again, and ends the stream with UDX_TIMED_OUT in the end.
+ *
+ * THE END OF A STREAM. A close ends both directions: what is not acknowledged then, at either end, may be lost. So close, after 1, once all
+ * that was to be written is written, stream.sender.remote_acked equals stream.sender.seq, and nothing more is wanted from the other end.
+ *   - With stream.ending.error set, by a close or by the other end's END: where remote_acked equals seq after 3, go on with 2 and do not
+ *     wait. That drive answers UDX_DONE. An end that waits instead answers each END with one of its own.
+ *   - The line may lose an END, and no timer sends it again. A caller that has to be sure waits before that last drive until the other
+ *     end's END has come (stream.ending.state is UDX_BOTH_CLOSED then), and after a while without one closes again.
+ *   - With UDX_TIMED_OUT: take and send what is left, then stop. Its packets stay stored, so UDX_DONE comes only if the other end still
+ *     acknowledges them.
+ *   - What has come in order can be read after the end too, also after UDX_DONE.
  *
  * CLOCKS are nanoseconds from any start, below 2^60, and never run backwards from call to call.
  *
@@ -82,7 +92,7 @@ enum {
     UDX_REFUSED_LONG_PAYLOAD = 9,      /* deliver: over 1,380 bytes */
     UDX_REFUSED_ACK_PAST_SEQ = 10,     /* deliver: acknowledges what was never sent */
     UDX_REFUSED_SEQ_END = 11,          /* deliver: DATA numbered 4,294,967,295, which no packet is */
-    UDX_REFUSED_PAST_INCOMING = 12,    /* deliver: DATA 32 or more past what the reader has reached; it comes again after a read */
+    UDX_REFUSED_PAST_INCOMING = 12,    /* deliver: DATA 32 or more past what was read; the sender's timer sends it again, 3 times at most */
     UDX_REFUSED_STATE_QUEUE_FULL = 13, /* deliver, close: drive and take first */
     /* 14 to 16 say only that the stream has that error: a read that answers it may have put bytes, and more may be in order (udx_read) */
     UDX_REFUSED_RESET = 14,            /* write, read: this side was closed */
@@ -217,7 +227,10 @@ udx_step udx_take(udx_stream stream, udx_totals totals, uint64_t *sent, const ui
                   size_t outgoing_length, const uint8_t *incoming, size_t incoming_length, const uint8_t *headers, size_t headers_length,
                   uint8_t *buf, size_t length);
 
-/* Where the next datagram to be taken stands, without taking it: length 0 where none is left, and in place of refusal 1. */
+/*
+ * Where the next datagram to be taken stands, without taking it: length 0 where none is left, and in place of refusal 1. Batches without a
+ * datagram may be left then: take until UDX_NONE all the same.
+ */
 udx_part udx_look(udx_stream stream, udx_totals totals, const uint64_t *sent, const uint64_t *held, const uint64_t *queue,
                   const uint8_t *outgoing, size_t outgoing_length, const uint8_t *incoming, size_t incoming_length, const uint8_t *headers,
                   size_t headers_length);
@@ -234,8 +247,9 @@ udx_step udx_read(udx_stream stream, udx_totals totals, const uint64_t *sent, ui
                   uint8_t *buf, size_t length);
 
 /*
- * Closes this side at once; the other end is told by a state packet at the next drive. That packet is not sent again if the line loses it:
- * another close queues another one. Refusals 1, 5, 6, 13.
+ * Ends the stream in both directions at once; the other end is told by a state packet at the next drive. That packet is not sent again if
+ * the line loses it: another close queues another one. What is not acknowledged yet may be lost (THE END OF A STREAM, above). Refusals 1, 5,
+ * 6, 13.
  */
 udx_step udx_close(udx_stream stream, udx_totals totals, const uint64_t *sent, const uint64_t *held, uint64_t *queue,
                    const uint8_t *outgoing, size_t outgoing_length, const uint8_t *incoming, size_t incoming_length, uint8_t *headers,
@@ -259,7 +273,7 @@ udx_numbers udx_layout_stream(udx_stream stream);
 udx_numbers udx_layout_totals(udx_stream stream, udx_totals totals);
 udx_step udx_layout_step(void);
 
-/* THE SHORT WAY: one end with all that it lends, and the calls on it. A pointer may be NULL here, and counts as no bytes then. */
+/* THE SHORT WAY: one end with all that it lends, and the calls on it. A pointer to bytes may be NULL here, and counts as no bytes then. */
 typedef struct udx_end {
     udx_stream stream;
     udx_totals totals;
@@ -312,7 +326,7 @@ static inline udx_answer udx_end_take(udx_end *e, uint8_t *buf, size_t length) {
                                      sizeof e->incoming, e->headers, sizeof e->headers, buf ? buf : none, buf ? length : 0));
 }
 
-/* The next datagram's bytes, in the end's own memory: untouched until its next call. The length is 0 where none is left to take. */
+/* The next datagram's bytes, in the end's own memory: untouched until its next call. The length is 0 where no datagram is left to take. */
 static inline const uint8_t *udx_end_look(const udx_end *e, size_t *length) {
     udx_part p = udx_look(e->stream, e->totals, e->sent, e->held, e->queue, e->outgoing, sizeof e->outgoing, e->incoming, sizeof e->incoming,
                           e->headers, sizeof e->headers);

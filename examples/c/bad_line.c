@@ -44,16 +44,17 @@ static void check_bytes(struct transfer *t, struct side *s, const struct source 
     s->wrong_at = s->read + at;
 }
 
-/* Reads until a read puts nothing. A read puts bytes also where it answers UDX_WAIT, so the count is looked at in each case. */
+/* Reads until a read puts nothing. A read puts bytes whatever it answers, so the count is looked at in each case, and the error last. */
 static void read_all(struct transfer *t, int i) {
     struct side *s = &t->side[i];
     udx_answer a;
     do {
-        a = must("read", udx_end_read(&s->end, t->got, sizeof t->got));
+        a = udx_end_read(&s->end, t->got, sizeof t->got);
         check_bytes(t, s, &t->side[1 - i].source, a.count);
         checksum_add(&s->of_read, t->got, a.count);
         s->read += a.count;
     } while (a.count > 0);
+    must("read", a);
 }
 
 /* A refused datagram is dropped: it is of an earlier stream, or it comes again. Any other refusal would be a mistake of this program. */

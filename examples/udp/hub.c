@@ -146,8 +146,8 @@ static void close_stream(struct link *l) {
             link_receive(l);
         }
     }
-    while (link_drive(l) != UDX_DONE)
-        ; /* at most once: the answer to the gateway's END */
+    while (l->end.stream.ending.error != UDX_NO_ERROR && link_drive(l) != UDX_DONE)
+        ; /* at most once: the answer to the gateway's END. Interrupted before a close, nothing ends here */
 }
 
 static const char *failure(const struct link *l) {

@@ -22,7 +22,8 @@ int main(int argc, char **argv) {
         fprintf(stderr, "recorded: no file of scripts: %s\n", argc > 1 ? argv[1] : "name one");
         return 2;
     }
-    while (fread(head, 1, sizeof head, f) == sizeof head) {
+    size_t got;
+    while ((got = fread(head, 1, sizeof head, f)) == sizeof head) {
         size_t n = (size_t)operand(head + 1, 4), m = (size_t)operand(head + 5, 4);
         if (n > sizeof script || m >= sizeof answer || fread(script, 1, n, f) != n || fread(answer, 1, m, f) != m) {
             fprintf(stderr, "recorded: the file is cut short or too large\n");
@@ -40,6 +41,10 @@ int main(int argc, char **argv) {
             printf("script %lu differs\n", number);
     }
     fclose(f);
+    if (got != 0) {
+        fprintf(stderr, "recorded: the file is cut short\n");
+        return 2;
+    }
     printf("%lu recorded sessions, %lu differ\n", run, failures);
-    return failures || run == 0;
+    return failures || run < 500;
 }

@@ -32,13 +32,60 @@
 //!
 //! # The round of a caller
 //!
-//! 1. [Deliver](Stream::deliver) each datagram that came in, [write](Stream::write), [read](Stream::read) until a read puts nothing,
-//!    [close](Stream::close).
+//! 1. [Deliver](Stream::deliver) each datagram that came in, [read](Stream::read) until a read puts nothing, [write](Stream::write).
 //! 2. [Drive](Stream::drive) with the clock; with [`Driven::Done`] the stream needs no further call.
 //! 3. [Take](Stream::take) until `None`, and send each datagram. Until then writes, deliveries, drives and closes are refused.
 //! 4. While bytes still wait to be written: write again, and if any were accepted go on with 2. Acknowledged packets leave in the drive,
 //!    so there is where room comes from, and a caller that waits before it has written into that room may wait for ever.
 //! 5. Wait for a datagram, for bytes to write, or for the [deadline](Stream::deadline).
+//!
+//! # The end of a stream
+//!
+//! A [close](Stream::close) ends both directions: what is not acknowledged then, at either end, may be lost. So close once all that was to
+//! be written is written, [nothing waits for an acknowledgement](Stream::deadline) and nothing more is wanted from the other end.
+//!
+//! - With an [error](Stream::error), by a close or by the other end's END: where nothing waits for an acknowledgement after step 3, go on
+//!   with step 2 and do not wait. That drive answers [`Driven::Done`]. An end that waits instead answers each END with one of its own.
+//! - The line may lose an END, and no timer sends it again. A caller that has to be sure waits before that last drive until the other end's
+//!   END has come ([`EndState::BothClosed`]), and after a while without one closes again.
+//! - With [`StreamError::TimedOut`]: take and send what is left, then stop. The packets stay stored, so `Done` comes only if the other end
+//!   still acknowledges them.
+//! - What has come in order can be read after the end too, also after `Done`.
+//!
+//! ```
+//! use std::time::Duration;
+//! use udx::{Driven, Read, Refusal, Stream, TAKE_ROOM};
+//!
+//! // A drive, and what it left to take brought to the other end.
+//! fn carry(from: &mut Stream, to: &mut Stream) -> Result<Driven, Refusal> {
+//!     let driven = from.drive(Duration::ZERO)?;
+//!     let mut buf = vec![0; TAKE_ROOM];
+//!     while let Some(batch) = from.take(&mut buf)? {
+//!         for datagram in batch.datagrams() {
+//!             to.deliver(datagram, Duration::ZERO).ok(); // a refused datagram is dropped
+//!         }
+//!     }
+//!     Ok(driven)
+//! }
+//!
+//! let mut hub = Stream::open(1, 2, 10, Duration::ZERO)?;
+//! let mut tower = Stream::open(2, 1, 10, Duration::ZERO)?;
+//! hub.write(b"AAA")?;
+//! carry(&mut hub, &mut tower)?; // the bytes
+//! carry(&mut tower, &mut hub)?; // their acknowledgement
+//! carry(&mut hub, &mut tower)?; // which this drive settles
+//! assert_eq!(hub.deadline(), None);
+//! hub.close()?;
+//! assert_eq!(carry(&mut hub, &mut tower)?, Driven::Ready); // the END
+//! assert_eq!(carry(&mut hub, &mut tower)?, Driven::Done);
+//!
+//! let mut bytes = [0; 8];
+//! assert_eq!(tower.read(&mut bytes), Read::Ready(3));
+//! assert_eq!(tower.read(&mut bytes), Read::Ended(0, Refusal::UnexpectedEof));
+//! assert_eq!(carry(&mut tower, &mut hub)?, Driven::Ready); // its own END, which the hub refuses: it is done
+//! assert_eq!(carry(&mut tower, &mut hub)?, Driven::Done);
+//! # Ok::<(), udx::Refusal>(())
+//! ```
 #![warn(missing_debug_implementations, unsafe_op_in_unsafe_fn)]
 
 mod header;

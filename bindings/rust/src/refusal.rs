@@ -30,7 +30,7 @@ pub enum Refusal {
     AckPastSeq = 10,
     /// DATA with the number that no packet has.
     SeqEnd = 11,
-    /// DATA 32 or more past what the reader has reached; it comes again after a read.
+    /// DATA 32 or more past what was read; the sender's timer sends it again, three times at most.
     PastIncoming = 12,
     /// No place for another state packet: drive and take first.
     StateQueueFull = 13,

@@ -331,7 +331,7 @@ impl Stream {
         self.stream.queue.left as usize
     }
 
-    /// The next datagram to be taken, without taking it.
+    /// The next datagram to be taken, without taking it. Batches without a datagram may be left where there is none: take until `None`.
     ///
     /// ```
     /// # use std::time::Duration;
@@ -407,8 +407,9 @@ impl Stream {
         }
     }
 
-    /// Closes this side at once; the next drive has a state packet for the other end. That packet is not sent again if the line loses it:
-    /// another close queues another one. Refusals 5, 6 and 13.
+    /// Ends the stream in both directions at once; the next drive has a state packet for the other end. That packet is not sent again if
+    /// the line loses it: another close queues another one. What is not acknowledged yet may be lost (the crate's head, 'The end of a stream').
+    /// Refusals 5, 6 and 13.
     pub fn close(&mut self) -> Result<(), Refusal> {
         // SAFETY: as in write.
         let r = unsafe {

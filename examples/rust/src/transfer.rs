@@ -244,7 +244,7 @@ impl Transfer {
 
     // 1. What came in is delivered and read.
 
-    /// Reads until a read puts nothing. A read puts bytes also where it answers `Wait`, so the count is looked at in each case.
+    /// Reads until a read puts nothing. A read puts bytes whatever it answers, so the count is looked at in each case, and the error last.
     fn read_all(&mut self, i: usize) -> Result<(), Failure> {
         let [hub, gateway] = &mut self.sides;
         let (side, other) = if i == HUB { (hub, gateway) } else { (gateway, hub) };
@@ -256,8 +256,8 @@ impl Transfer {
             side.read += got.len() as u64;
             match answer {
                 Read::Ready(0) | Read::Wait(0) => return Ok(()),
-                Read::Ready(_) | Read::Wait(_) => {}
-                Read::Ended(_, why) => return Err(refused("read")(why)),
+                Read::Ended(0, why) => return Err(refused("read")(why)),
+                _ => {}
             }
         }
     }
