@@ -408,8 +408,8 @@ impl Stream {
     }
 
     /// Ends the stream in both directions at once; the next drive has a state packet for the other end. That packet is not sent again if
-    /// the line loses it: another close queues another one. What is not acknowledged yet may be lost (the crate's head, 'The end of a stream').
-    /// Refusals 5, 6 and 13.
+    /// the line loses it: another close queues another one. What is not acknowledged yet may be lost (the crate's head, 'The end of a
+    /// stream'). Refusals 5, 6 and 13.
     pub fn close(&mut self) -> Result<(), Refusal> {
         // SAFETY: as in write.
         let r = unsafe {
