@@ -21,21 +21,25 @@
  *     }
  *
  * THE ROUND OF A CALLER. Repeat:
- *   1. deliver each datagram that came; read until a read puts nothing; write what is to be sent.
+ *   1. deliver each datagram that came; read until a read puts nothing; write what is to be sent; close if it is time to (below).
  *   2. drive with the clock. UDX_DONE: the stream has ended and needs no further call.
- *   3. take until UDX_NONE, and send each batch. Until then write, deliver, drive and close answer refusal 6. Where stream.queue.left is 0
- *      the next take answers UDX_NONE, so that call can be saved.
- *   4. while bytes still wait to be written: write again, and if any were accepted go on with 2. Acknowledged packets leave in the drive, so
- *      there is where room comes from, and a caller that waits before it has written into that room may wait for ever.
+ *   3. take until UDX_NONE, and send each batch. Until then write, deliver, drive and close answer refusal 6. Where stream.queue.left is
+ *      0 the next take answers UDX_NONE, so that call can be saved.
+ *   4. write again what still waits to be written, and close if it is time to; if any bytes were accepted or the stream was closed, go on
+ *      with 2. Acknowledgements are settled in the drive, so there is where room comes from, and a caller that waits before it has looked
+ *      again may wait for ever.
  *   5. wait for a datagram, for bytes to write, or, while stream.sender.remote_acked differs from stream.sender.seq, until the clock is
- *      stream.timing.deadline: a drive at or past it sends unacknowledged packets again, and ends the stream with UDX_TIMED_OUT in the end.
+ *      stream.timing.deadline: a drive at or past it sends unacknowledged packets again, and ends the stream with UDX_TIMED_OUT in the
+ *      end.
  *
- * THE END OF A STREAM. A close ends both directions: what is not acknowledged then, at either end, may be lost. So close, after 1, once all
- * that was to be written is written, stream.sender.remote_acked equals stream.sender.seq, and nothing more is wanted from the other end.
- *   - With stream.ending.error set, by a close or by the other end's END: where remote_acked equals seq after 3, go on with 2 and do not
- *     wait. That drive answers UDX_DONE. An end that waits instead answers each END with one of its own.
- *   - The line may lose an END, and no timer sends it again. A caller that has to be sure waits before that last drive until the other
- *     end's END has come (stream.ending.state is UDX_BOTH_CLOSED then), and after a while without one closes again.
+ * THE END OF A STREAM. A close ends both directions: what is not acknowledged then, at either end, may be lost. So it is time to close
+ * when all that was to be written is written, remote_acked equals seq, and nothing more is wanted from the other end. The other end is
+ * told by an END, which the line may lose and no timer sends again.
+ *   - With stream.ending.error set, by a close or by the other end's END, remote_acked equal to seq and stream.queue.count 0 the next
+ *     drive is the last: it answers UDX_DONE, and what comes later is refused. An end that need not be sure of the other makes it at
+ *     once. One that has closed and wants to be sure waits with it for the other end's END (stream.ending.state is UDX_BOTH_CLOSED then),
+ *     closes again after a while without one, and gives up in the end. One that was told waits with it until no datagram has come for a
+ *     while: an END that comes again asks for another answer. bindings/rust/tests/round.rs does just this.
  *   - With UDX_TIMED_OUT: take and send what is left, then stop. Its packets stay stored, so UDX_DONE comes only if the other end still
  *     acknowledges them.
  *   - What has come in order can be read after the end too, also after UDX_DONE.
@@ -248,8 +252,8 @@ udx_step udx_read(udx_stream stream, udx_totals totals, const uint64_t *sent, ui
 
 /*
  * Ends the stream in both directions at once; the other end is told by a state packet at the next drive. That packet is not sent again if
- * the line loses it: another close queues another one. What is not acknowledged yet may be lost (THE END OF A STREAM, above). Refusals 1, 5,
- * 6, 13.
+ * the line loses it: another close queues another one. What is not acknowledged yet may be lost (THE END OF A STREAM, above). Refusals 1,
+ * 5, 6, 13.
  */
 udx_step udx_close(udx_stream stream, udx_totals totals, const uint64_t *sent, const uint64_t *held, uint64_t *queue,
                    const uint8_t *outgoing, size_t outgoing_length, const uint8_t *incoming, size_t incoming_length, uint8_t *headers,

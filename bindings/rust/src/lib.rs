@@ -32,24 +32,28 @@
 //!
 //! # The round of a caller
 //!
-//! 1. [Deliver](Stream::deliver) each datagram that came in, [read](Stream::read) until a read puts nothing, [write](Stream::write).
+//! 1. [Deliver](Stream::deliver) each datagram that came in, [read](Stream::read) until a read puts nothing, [write](Stream::write) what
+//!    is to be sent, [close](Stream::close) if it is time to.
 //! 2. [Drive](Stream::drive) with the clock; with [`Driven::Done`] the stream needs no further call.
 //! 3. [Take](Stream::take) until `None`, and send each datagram. Until then writes, deliveries, drives and closes are refused.
-//! 4. While bytes still wait to be written: write again, and if any were accepted go on with 2. Acknowledged packets leave in the drive,
-//!    so there is where room comes from, and a caller that waits before it has written into that room may wait for ever.
+//! 4. Write again what still waits to be written, and close if it is time to; if any bytes were accepted or the stream was closed, go on
+//!    with step 2. Acknowledgements are settled in the drive, so there is where room comes from, and a caller that waits before it has
+//!    looked again may wait for ever.
 //! 5. Wait for a datagram, for bytes to write, or for the [deadline](Stream::deadline).
 //!
 //! # The end of a stream
 //!
-//! A [close](Stream::close) ends both directions: what is not acknowledged then, at either end, may be lost. So close once all that was to
-//! be written is written, [nothing waits for an acknowledgement](Stream::deadline) and nothing more is wanted from the other end.
+//! A [close](Stream::close) ends both directions: what is not acknowledged then, at either end, may be lost. So it is time to close when
+//! all that was to be written is written, [nothing waits for an acknowledgement](Stream::deadline) and nothing more is wanted from the
+//! other end. The other end is told by an END, which the line may lose and no timer sends again.
 //!
-//! - With an [error](Stream::error), by a close or by the other end's END: where nothing waits for an acknowledgement after step 3, go on
-//!   with step 2 and do not wait. That drive answers [`Driven::Done`]. An end that waits instead answers each END with one of its own.
-//! - The line may lose an END, and no timer sends it again. A caller that has to be sure waits before that last drive until the other end's
-//!   END has come ([`EndState::BothClosed`]), and after a while without one closes again.
-//! - With [`StreamError::TimedOut`]: take and send what is left, then stop. The packets stay stored, so `Done` comes only if the other end
-//!   still acknowledges them.
+//! - With an [error](Stream::error), by a close or by the other end's END, nothing that waits for an acknowledgement and nothing
+//!   [queued](Stream::queued) the next drive is the last: it answers [`Driven::Done`], and what comes later is refused. An end that need
+//!   not be sure of the other makes it at once. One that has closed and wants to be sure waits with it for the other end's END
+//!   ([`EndState::BothClosed`]), closes again after a while without one, and gives up in the end. One that was told waits with it until
+//!   no datagram has come for a while: an END that comes again asks for another answer. tests/round.rs does just this.
+//! - With [`StreamError::TimedOut`]: take and send what is left, then stop. The packets stay stored, so `Done` comes only if the other
+//!   end still acknowledges them.
 //! - What has come in order can be read after the end too, also after `Done`.
 //!
 //! ```

@@ -466,6 +466,22 @@ impl Stream {
         }
     }
 
+    /// Entries of the send queue: what the next drive leaves to take, or what of the last one is left.
+    ///
+    /// ```
+    /// # use std::time::Duration;
+    /// # use udx::Stream;
+    /// let mut s = Stream::open(1, 2, 10, Duration::ZERO)?;
+    /// assert_eq!(s.queued(), 0);
+    /// s.close()?;
+    /// assert_eq!(s.queued(), 1);
+    /// # Ok::<(), udx::Refusal>(())
+    /// ```
+    pub fn queued(&self) -> usize {
+        let q = self.stream.queue;
+        (if q.left > 0 { q.left } else { q.count }) as usize
+    }
+
     /// A drive has answered [`Driven::Done`].
     pub fn is_done(&self) -> bool {
         self.stream.ending.ended == 1
