@@ -75,4 +75,5 @@ module _ {s : Stream} {t : Totals} {clock : ℕ} {h : Header} {payload : Bytes} 
             ∙ ap (onData h payload) (x .seen-after (d .formed) (withDelivered sent held queue incoming headers l)));
         formed = y .pushed .formed (x .pushed .formed (d .formed));
         laid = λ z. y .laid (subst Laid (sym (x .receiver)) z);
+        beside = y .beside;
       }

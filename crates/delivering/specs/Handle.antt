@@ -10,7 +10,9 @@ use Rattle.model.specs.Stream as model
 use Rattle.model.specs.Receiving.{countReceived, atClock, onSack, onEnd, handleIncoming}
 use Rattle.records.specs.declared.Stream.{Stream}
 use Rattle.records.specs.declared.Totals.{Totals}
+use Rattle.records.specs.Cut.{incomingSlot}
 use Rattle.records.specs.Seen.{Lent, seen, formedQueue}
+use Rattle.records.specs.Beside.{Stay, heldSize}
 use Rattle.receiving.specs.Layout.{Laid}
 use Rattle.handling.specs.declared.Delivered.{Delivered}
 use Rattle.handling.specs.Steps.{Measured, Pushed, TakesData}
@@ -54,3 +56,5 @@ pub record Handled (s : Stream) (t : Totals) (clock : ℕ) (h : Header) (payload
       ≡ handleIncoming clock h payload (seen s t (withDelivered sent held queue incoming headers l))
   pub formed : formedQueue (r .stream .queue) queue′ ≡ true
   pub laid : Laid (s .receiver) → Laid (r .stream .receiver)
+  -- what the slots hold past their packets stays
+  pub beside : Stay incomingSlot (heldSize held′) incoming incoming′

@@ -114,9 +114,10 @@ module _ (s : Stream) (t : Totals) (h : Header) (payload : Bytes) (held queue : 
         others = refl;
         pushed = pushed-one x;
         laid = λ z. a .laid;
+        beside = a .beside;
       }
 
   pub not-taken : hasType 1 (h .typ) ≡ false → length headers ≡ 1_280 → Took s t h payload held queue incoming headers (record { stream = s; totals = t }) held queue incoming headers
   unfolding onData
   not-taken is whole =
-      record { seen-after = λ f l. rw is refl; others = refl; pushed = pushed-none (s .queue) queue headers whole; laid = λ z. z }
+      record { seen-after = λ f l. rw is refl; others = refl; pushed = pushed-none (s .queue) queue headers whole; laid = λ z. z; beside = λ i l. refl }

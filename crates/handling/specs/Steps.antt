@@ -16,7 +16,9 @@ use Rattle.records.specs.declared.Queue.{Queue}
 use Rattle.records.specs.declared.Timing.{Timing}
 use Rattle.records.specs.declared.Stream.{Stream}
 use Rattle.records.specs.declared.Totals.{Totals}
+use Rattle.records.specs.Cut.{incomingSlot}
 use Rattle.records.specs.Seen.{Lent, seen, formedQueue}
+use Rattle.records.specs.Beside.{Stay, heldSize}
 use Rattle.records.specs.Setters.{withQueue, withWords}
 use Rattle.closing.specs.State.{withState, withEnding}
 use Rattle.acking.specs.Acked.{SameNumbers}
@@ -96,3 +98,4 @@ pub record Took (s : Stream) (t : Totals) (h : Header) (payload : Bytes) (held q
   pub others : r .stream ≡ withQueue (r .stream .queue) (withReceiver (r .stream .receiver) s)
   pub pushed : Pushed (s .queue) queue (r .stream .queue) queue′ headers′
   pub laid : Laid (s .receiver) → Laid (r .stream .receiver)
+  pub beside : Stay incomingSlot (heldSize held′) incoming incoming′

@@ -1,6 +1,6 @@
 -- One sent piece on the records is the model's: what is seen after `SendsPiece` is `sendDataPacket` of what was seen before. The sender
 -- is the law of a new packet in the outgoing store, the queue that of a pushed entry, the totals are the same sums. The queue stays as it
--- is laid out. Assumes nothing.
+-- is laid out, and the store as it was but for the packet's bytes. Assumes nothing.
 use Prim.Native.Nat.{ℕ, suc, _+_, _*_, _%_, _≤_, _<_}
 use native.Mathlib.Numerals.{add-one}
 use native.Mathlib.Omega.{arith}
@@ -12,18 +12,23 @@ use lib.ListN.{length, set, length-set, length-append}
 use Rattle.packet.specs.Header.{headerBytes}
 use Rattle.packet.proofs.HeaderLaws.{header-length}
 use Rattle.model.specs.Lists.{Bytes}
-use Rattle.model.specs.Slots.{Slots, insert}
+use Rattle.model.specs.Slots.{Slots, ceiling, insert}
 use Rattle.model.specs.Stream as model
 use Rattle.model.specs.Sending.{newMarks, pushed, countSent, sendDataPacket}
+use Rattle.words.specs.declared.Sent.{Sent}
 use Rattle.records.specs.declared.Sender.{Sender}
 use Rattle.records.specs.declared.Queue.{Queue}
 use Rattle.records.specs.declared.Totals.{Totals}
 use Rattle.records.specs.declared.Stream.{Stream}
 use Rattle.words.specs.Words.{sentOf, sentWord, sentTime, entryOf, entryWord}
+use Rattle.records.specs.Cut.{beyond, outgoingSlot}
+use Rattle.records.specs.Put.{put}
+use Rattle.records.specs.Beside.{sentSize}
 use Rattle.records.specs.Seen.{Lent, seen, seenSender, seenQueue, seenTotals, seenOutgoing, formedQueue}
 use Rattle.words.proofs.WordLaws.{sent-back, entry-back}
 use Rattle.records.proofs.Put.{put-length}
-use Rattle.records.proofs.SeenOutgoing.{write-outgoing}
+use Rattle.records.proofs.Cut.{out-is, beyond-same, beyond-other}
+use Rattle.records.proofs.SeenOutgoing.{sent-same, sent-other, write-outgoing}
 use Rattle.records.proofs.SeenQueue.{queue-packet}
 use Rattle.records.proofs.FormedQueue.{queue-said, queue-says, formed-packet}
 use Rattle.pieces.specs.declared.Outbox.{Outbox}
@@ -117,3 +122,34 @@ module _ {o r : Outbox} {remote ack : ℕ} {piece sent queue outgoing sent′ qu
   store-length =
       ap length (x .bytes)
       ∙ put-length outgoing (o .sender .seq % 32 * 1_400) (headerBytes (headerOf 1 remote (o .sender .seq) ack) ++ piece) (omega (arith, packet-length, room .whole, room .short)) ∙ room .whole
+
+  -- the slot of the packet, and the others
+
+  fits : length (headerBytes (headerOf 1 remote (o .sender .seq) ack) ++ piece) ≤ outgoingSlot
+  fits = omega (arith, packet-length, room .short, out-is)
+
+  inside : o .sender .seq % ceiling * outgoingSlot + length (headerBytes (headerOf 1 remote (o .sender .seq) ack) ++ piece) ≤ length outgoing
+  inside = rw out-is (omega (arith, packet-length, room .whole, room .short))
+
+  store-is : outgoing′ ≡ put outgoing (o .sender .seq % ceiling * outgoingSlot) (headerBytes (headerOf 1 remote (o .sender .seq) ack) ++ piece)
+  store-is = rw out-is (x .bytes)
+
+  pub size-here : sentSize sent′ (o .sender .seq % ceiling) ≡ length piece + 20
+  size-here =
+      ap (λ (words : List ℕ). sentSize words (o .sender .seq % ceiling)) (x .sent-words)
+      ∙ ap (λ (p : Sent). p .length) (sent-same sent sent-long (o .sender .seq) (newPacket (o .sender .seq) (length piece)) ∙ back)
+
+  pub size-other : (i : ℕ) → i < ceiling → i ≢ o .sender .seq % ceiling → sentSize sent′ i ≡ sentSize sent i
+  size-other i l ne =
+      ap (λ (words : List ℕ). sentSize words i) (x .sent-words)
+      ∙ ap (λ (p : Sent). p .length) (sent-other sent sent-long (o .sender .seq) (newPacket (o .sender .seq) (length piece)) i l ne)
+
+  pub beyond-here : beyond outgoingSlot outgoing′ (o .sender .seq % ceiling) (length piece + 20) ≡ beyond outgoingSlot outgoing (o .sender .seq % ceiling) (length piece + 20)
+  beyond-here =
+      rw (store-is, ← packet-length)
+      (beyond-same outgoingSlot outgoing (headerBytes (headerOf 1 remote (o .sender .seq) ack) ++ piece) (o .sender .seq % ceiling) fits inside)
+
+  pub beyond-elsewhere : (i k : ℕ) → i ≢ o .sender .seq % ceiling → beyond outgoingSlot outgoing′ i k ≡ beyond outgoingSlot outgoing i k
+  beyond-elsewhere i k ne =
+      ap (λ (store : List ℕ). beyond outgoingSlot store i k) store-is
+      ∙ beyond-other outgoingSlot outgoing (headerBytes (headerOf 1 remote (o .sender .seq) ack) ++ piece) (o .sender .seq % ceiling) fits inside i k ne

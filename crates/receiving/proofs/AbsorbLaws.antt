@@ -4,6 +4,7 @@
 use Prim.Native.Nat.{ℕ, zero, suc, _+_, _-_, _*_, _%_, _≤_, _<_, max}
 use native.Mathlib.Numerals.{add-one}
 use native.Mathlib.Omega.{arith}
+use native.Mathlib.Decide.{ℕ-discrete}
 use mathlib.Core.Path.{_≡_, refl, ap, sym, _∙_}
 use mathlib.Core.List.{List}
 use mathlib.Core.Option.{none, some}
@@ -11,6 +12,7 @@ use mathlib.Core.Bool.{Bool, true, false, cond}
 use lib.Dec.{ltb}
 use borrow.Author.Tests.{le-leb, lt-leb, ltb-true, ltb-false}
 use lib.ListN.{length, set, length-set}
+use lib.Seq.{getD-set-same}
 use Rattle.model.specs.Lists.{Bytes}
 use Rattle.model.specs.Slots.{ceiling, get, insert}
 use Rattle.model.specs.Stream as model
@@ -19,8 +21,11 @@ use Rattle.words.specs.declared.Held.{Held}
 use Rattle.records.specs.declared.Receiver.{Receiver}
 use Rattle.words.specs.Words.{heldOf, heldWord, isHeld}
 use Rattle.records.specs.Put.{put}
+use Rattle.records.specs.Cut.{beyond, incomingSlot}
 use Rattle.records.specs.Seen.{heldPayload, seenIncoming, seenReceiver}
+use Rattle.records.specs.Beside.{Stay, heldSize}
 use Rattle.words.proofs.WordLaws.{held-back}
+use Rattle.records.proofs.Cut.{in-is, beyond-same, beyond-other}
 use Rattle.records.proofs.SeenIncoming.{heldIn, withHeld, get-incoming, get-past, clear-one, hold-incoming, hold-next}
 use Rattle.receiving.specs.Layout.{Laid}
 use Rattle.receiving.specs.Absorbing.{Accepted, Cleared, Inserted, Advanced, Absorbed}
@@ -90,6 +95,30 @@ module _ {r : Receiver} {words cleared : List ℕ} {store : Bytes} {n : ℕ} {pa
       (hold-next (r .«read_cursor») cleared long n (arrived n payload) refl (λ z. omega arith) back low store payload (a .store) (a .short)
       (add-one (length payload)))
 
+  -- past the payload its slot is as it was, and every other slot is
+  stays : Stay incomingSlot (heldSize (set cleared (n % 32) (heldWord (arrived n payload)))) store (put store (n % 32 * 1_380) payload)
+  stays i l = rw (← in-is) (at-slot (ℕ-discrete i (n % ceiling)))
+    where
+      words′ : List ℕ
+      words′ = set cleared (n % ceiling) (heldWord (arrived n payload))
+
+      fits : length payload ≤ incomingSlot
+      fits = omega (arith, a .short, in-is)
+
+      room : n % ceiling * incomingSlot + length payload ≤ length store
+      room = rw in-is (omega (arith, a .short, a .store))
+
+      here : heldSize words′ (n % ceiling) ≡ length payload
+      here =
+          let i : n % ceiling < length cleared = omega arith in
+          let e : length payload + 1 - 1 ≡ length payload = omega arith in
+          ap (λ (p : Held). p .past - 1) (ap heldOf (getD-set-same cleared (n % ceiling) (heldWord (arrived n payload)) 0 i) ∙ back) ∙ e
+
+      at-slot : Dec (i ≡ n % ceiling)
+          → beyond incomingSlot (put store (n % ceiling * incomingSlot) payload) i (heldSize words′ i) ≡ beyond incomingSlot store i (heldSize words′ i)
+      at-slot (yes e) = rw (e, here) (beyond-same incomingSlot store payload (n % ceiling) fits room)
+      at-slot (no ne) = beyond-other incomingSlot store payload (n % ceiling) fits room i (heldSize words′ i) ne
+
   pub inserts : {words′ : List ℕ} {store′ : Bytes} {top : ℕ} → words′ ≡ set cleared (n % 32) (heldWord (arrived n payload))
       → store′ ≡ put store (n % 32 * 1_380) payload → top ≡ max (r .top) (n + 1)
       → Inserted r words store n payload (record { ack = r .ack; «read_cursor» = r .«read_cursor»; top = top }) words′ store′
@@ -101,6 +130,7 @@ module _ {r : Receiver} {words cleared : List ℕ} {store : Bytes} {n : ℕ} {pa
         ack = refl;
         cursor = refl;
         laid = record { from = omega arith; width = omega arith };
+        beside = rw (e, f) stays;
       }
 
 -- ack moves
@@ -185,6 +215,7 @@ module _ {r : Receiver} {words : List ℕ} {store : Bytes} {n : ℕ} {payload : 
         seen = rw (lt-leb (r .ack) n l) (g .seen store);
         cursor = g .cursor;
         laid = record { from = omega arith; width = omega arith };
+        beside = λ i l. refl;
       }
 
   pub absorbs-new : {s r′ : Receiver} {words′ : List ℕ} {store′ : Bytes} → r .ack ≤ n → Inserted r words store n payload s words′ store′
@@ -198,4 +229,5 @@ module _ {r : Receiver} {words : List ℕ} {store : Bytes} {n : ℕ} {payload : 
         seen = g .seen store′ ∙ rw (le-leb (r .ack) n l, i .seen, i .ack, i .cursor) refl;
         cursor = g .cursor ∙ i .cursor;
         laid = record { from = omega arith; width = omega arith };
+        beside = i .beside;
       }

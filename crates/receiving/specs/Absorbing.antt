@@ -8,7 +8,9 @@ use Rattle.model.specs.Lists.{Bytes}
 use Rattle.model.specs.Slots.{ceiling}
 use Rattle.model.specs.Receiving as model
 use Rattle.records.specs.declared.Receiver.{Receiver}
+use Rattle.records.specs.Cut.{incomingSlot}
 use Rattle.records.specs.Seen.{seenIncoming, seenReceiver}
+use Rattle.records.specs.Beside.{Stay, heldSize}
 use Rattle.receiving.specs.Layout.{Laid}
 
 -- DATA that no refusal stops: not 1, "A lent store has another length than above, or a rule of the records is broken" ("read cursor ≤
@@ -34,6 +36,7 @@ pub record Inserted (r : Receiver) (held : List ℕ) (incoming : Bytes) (n : ℕ
   pub ack : r′ .ack ≡ r .ack
   pub cursor : r′ .«read_cursor» ≡ r .«read_cursor»
   pub laid : Laid r′
+  pub beside : Stay incomingSlot (heldSize held′) incoming incoming′
 
 -- while incoming.contains_key(&ack) { ack += 1 }, with the model's count of steps
 pub record Advanced (r : Receiver) (held : List ℕ) (r′ : Receiver) : Type 0 where
@@ -48,3 +51,5 @@ pub record Absorbed (r : Receiver) (held : List ℕ) (incoming : Bytes) (n : ℕ
   pub seen : seenReceiver r′ held′ incoming′ ≡ model.absorb n payload (seenReceiver r held incoming)
   pub cursor : r′ .«read_cursor» ≡ r .«read_cursor»
   pub laid : Laid r′
+  -- what the slots hold past their packets stays
+  pub beside : Stay incomingSlot (heldSize held′) incoming incoming′

@@ -1,5 +1,5 @@
 -- A store cut into pieces of z bytes: a piece has as many bytes as are asked for, what is put at the start of a piece is there, and it
--- changes no other piece. Two pieces do not overlap, as (j + 1) z ≤ i z for j < i. Assumes nothing.
+-- changes no other piece and nothing past it. Two pieces do not overlap, as (j + 1) z ≤ i z for j < i. Assumes nothing.
 use Prim.Native.Nat.{ℕ, zero, suc, _+_, _-_, _*_, _≤_, _<_}
 use native.Mathlib.Nat.{mul-le-mul-right, suc-mul}
 use native.Mathlib.Omega.{arith}
@@ -12,8 +12,8 @@ use borrow.Author.Tests.{ltb-true, ltb-false}
 use lib.ListN.{length, take, drop, replicate, length-take, length-drop, length-append, length-replicate}
 use lib.Seq.{take-append-le, take-take, drop-drop, take-nil}
 use Rattle.records.specs.Put.{put}
-use Rattle.records.specs.Cut.{cut, outgoingSlot, incomingSlot, headerSlot}
-use Rattle.records.proofs.Put.{put-length, put-same, put-before, put-after}
+use Rattle.records.specs.Cut.{cut, beyond, outgoingSlot, incomingSlot, headerSlot}
+use Rattle.records.proofs.Put.{put-length, put-same, put-before, put-drop, put-after}
 
 -- the sizes of the pieces
 
@@ -50,6 +50,11 @@ drop-take (suc m) (suc n) (x ∷ l) = drop-take m n l ∙ ap (λ (k : ℕ). take
 pub cut-drop : (z : ℕ) (store : List ℕ) (i k m : ℕ) → i * z + k ≤ length store → k ≤ z → drop m (cut z store i k) ≡ take (k - m) (drop (i * z + m) store)
 cut-drop z store i k m h l = rw (cut-whole z store i k h l, drop-take m k (drop (i * z) store), drop-drop)
 
+-- what stands past the first k bytes of a piece
+beyond-is : (z : ℕ) (store : List ℕ) (i k : ℕ) → beyond z store i k ≡ take (z - k) (drop (i * z + k) store)
+unfolding beyond
+beyond-is z store i k = drop-take k z (drop (i * z) store) ∙ ap (take (z - k)) (drop-drop k (i * z) store)
+
 earlier : (j i z : ℕ) → j < i → j * z + z ≤ i * z
 earlier j i z h = let m = mul-le-mul-right {m = suc j} {n = i} z (omega arith) in rw suc-mul at m
 
@@ -57,9 +62,8 @@ module _ (z : ℕ) (store pkt : List ℕ) (i : ℕ) (short : length pkt ≤ z) (
   pub cut-same : cut z (put store (i * z) pkt) i (length pkt) ≡ pkt
   cut-same = cut-whole z (put store (i * z) pkt) i (length pkt) (rw (put-length store (i * z) pkt room) room) short ∙ put-same store (i * z) pkt room
 
-  pub cut-other : (j k : ℕ) → j ≢ i → cut z (put store (i * z) pkt) j k ≡ cut z store j k
-  unfolding cut
-  cut-other j k ne = ap (λ (l : List ℕ). take k (l ++ replicate k 0)) (go (ltb j i) refl)
+  piece-other : (j : ℕ) → j ≢ i → take z (drop (j * z) (put store (i * z) pkt)) ≡ take z (drop (j * z) store)
+  piece-other j ne = go (ltb j i) refl
     where
       go : (b : Bool) → ltb j i ≡ b → take z (drop (j * z) (put store (i * z) pkt)) ≡ take z (drop (j * z) store)
       go true e = put-before store (i * z) pkt room (j * z) z (earlier j i z (ltb-true j i e))
@@ -68,3 +72,19 @@ module _ (z : ℕ) (store pkt : List ℕ) (i : ℕ) (short : length pkt ≤ z) (
           let l : i < j = omega (arith, ne) in
           let m = earlier i j z l in
           put-after store (i * z) pkt room (j * z) z (omega arith)
+
+  pub cut-other : (j k : ℕ) → j ≢ i → cut z (put store (i * z) pkt) j k ≡ cut z store j k
+  unfolding cut
+  cut-other j k ne = ap (λ (l : List ℕ). take k (l ++ replicate k 0)) (piece-other j ne)
+
+  -- what stands past it in its piece, and in any other piece
+
+  pub beyond-same : beyond z (put store (i * z) pkt) i (length pkt) ≡ beyond z store i (length pkt)
+  beyond-same =
+      beyond-is z (put store (i * z) pkt) i (length pkt)
+      ∙ ap (take (z - length pkt)) (put-drop store (i * z) pkt room (i * z + length pkt) (omega arith))
+      ∙ sym (beyond-is z store i (length pkt))
+
+  pub beyond-other : (j k : ℕ) → j ≢ i → beyond z (put store (i * z) pkt) j k ≡ beyond z store j k
+  unfolding beyond
+  beyond-other j k ne = ap (drop k) (piece-other j ne)

@@ -91,7 +91,7 @@ same-sent remoteAcked seq words words′ store h =
 -- a packet is put into the slot of its number
 
 module _ (words : List ℕ) (long : length words ≡ 64) (n : ℕ) (p : Sent) where
-  sent-same : sentIn (withSent words n p) (n % ceiling) ≡ sentOf (sentWord p) (sentTime p)
+  pub sent-same : sentIn (withSent words n p) (n % ceiling) ≡ sentOf (sentWord p) (sentTime p)
   sent-same =
       let i : n % ceiling < length words = omega arith in
       let j : 32 + n % ceiling < length (set words (n % ceiling) (sentWord p)) = simp length-set (omega arith) in
@@ -101,7 +101,7 @@ module _ (words : List ℕ) (long : length words ≡ 64) (n : ℕ) (p : Sent) wh
         getD-set-same (set words (n % ceiling) (sentWord p)) (32 + n % ceiling) (sentTime p) 0 j,
       )
 
-  sent-other : (i : ℕ) → i < ceiling → i ≢ n % ceiling → sentIn (withSent words n p) i ≡ sentIn words i
+  pub sent-other : (i : ℕ) → i < ceiling → i ≢ n % ceiling → sentIn (withSent words n p) i ≡ sentIn words i
   sent-other i l ne =
       rw (
         getD-set-other (set words (n % ceiling) (sentWord p)) (32 + n % ceiling) i (sentTime p) 0 (λ q. omega arith),

@@ -8,6 +8,10 @@ use lib.ListN.{take, drop, replicate}
 unfoldable pub cut : (z : ℕ) → List ℕ → (i k : ℕ) → List ℕ
 cut z store i k = take k (take z (drop (i * z) store) ++ replicate k 0)
 
+-- the bytes of piece i past its first k
+unfoldable pub beyond : (z : ℕ) → List ℕ → (i k : ℕ) → List ℕ
+beyond z store i k = drop k (take z (drop (i * z) store))
+
 -- 01, 'Records': the pieces of the three stores. Shut, so that no proof counts 1,400 bytes; `out-is`, `in-is`, `head-is` in
 -- proofs/Cut.antt say how many they are.
 unfoldable pub outgoingSlot : ℕ

@@ -1,9 +1,10 @@
 -- The loop of a write on the records (`Going`): what went, joined to what the model still does with the bytes that are left, is what it
 -- does with all of them. It holds before the first piece, a sent piece keeps it, and where the loop stops the model's stops too. The
 -- bounds grow with the number of packets, of which there are 32 at most. Assumes nothing.
-use Prim.Native.Nat.{ℕ, _+_, _-_, _*_, _≤_, _<_, min}
+use Prim.Native.Nat.{ℕ, _+_, _-_, _*_, _%_, _≤_, _<_, min}
 use native.Mathlib.Nat.{add-zero, zero-add}
 use native.Mathlib.Omega.{arith}
+use native.Mathlib.Decide.{ℕ-discrete}
 use mathlib.Core.Path.{_≡_, refl, ap, ap₂, sym, _∙_}
 use mathlib.Core.List.{List}
 use mathlib.Core.Bool.{true, false, _&&_}
@@ -11,20 +12,24 @@ use lib.Dec.{leb, ltb}
 use lib.ListN.{length, take, drop, length-drop}
 use borrow.Author.Tests.{ltb-true}
 use Rattle.model.specs.Lists.{Bytes}
+use Rattle.model.specs.Slots.{ceiling}
 use Rattle.model.specs.Stream.{End}
 use Rattle.model.specs.Sending.{piece, goes, sendDataPacket, Written}
 use Rattle.model.proofs.Gate.{and-left, and-right}
+use Rattle.model.proofs.Slots.{apart}
 use Rattle.records.specs.declared.Sender.{Sender}
 use Rattle.records.specs.declared.Queue.{Queue}
 use Rattle.records.specs.declared.Totals.{Totals}
 use Rattle.records.specs.declared.Stream.{Stream}
+use Rattle.records.specs.Cut.{beyond, outgoingSlot}
 use Rattle.records.specs.Seen.{Lent, seen, seenSender, formedQueue}
+use Rattle.records.specs.Beside.{Stay, sentSize}
 use Rattle.pieces.specs.declared.Outbox.{Outbox}
 use Rattle.pieces.specs.Piece.{mayGo, Room, SendsPiece}
 use Rattle.pieces.specs.Piece.{withOutbox, withSent}
 use Rattle.sending.specs.Write.{Ready, Writes}
 use Rattle.sending.proofs.WriteLoop.{writeAll, joined, all-empty, all-stop, all-turn, piece-is, piece-length, rest-is}
-use Rattle.pieces.proofs.SentPiece.{piece-seen, piece-formed, sent-length, queue-length, store-length}
+use Rattle.pieces.proofs.SentPiece.{piece-seen, piece-formed, sent-length, queue-length, store-length, size-here, size-other, beyond-here, beyond-elsewhere}
 
 -- what is seen of a stream with the numbers of an outbox
 abbrev seenOf : Outbox → (sent queue outgoing : List ℕ) → Stream → Lent → End
@@ -49,6 +54,10 @@ pub record Going (remote ack : ℕ) (bytes : Bytes) (o₀ : Outbox) (sent₀ que
   pub payloads : o .totals .«inflight_bytes» ≤ 44_160 + (o .sender .seq - o .sender .«remote_acked») * 1_380
   pub places : (o .queue .states ≡ o₀ .queue .states) × (o .queue .gone ≡ o₀ .queue .gone)
   pub formed : formedQueue (o₀ .queue) queue₀ ≡ true → formedQueue (o .queue) queue ≡ true
+  -- no byte of the slots to come was touched
+  pub untouched : (m : ℕ) → o .sender .seq ≤ m → m < o .sender .«remote_acked» + ceiling → (k : ℕ)
+      → beyond outgoingSlot outgoing (m % ceiling) k ≡ beyond outgoingSlot outgoing₀ (m % ceiling) k
+  pub beside : Stay outgoingSlot (sentSize sent) outgoing₀ outgoing
   pub same : (s : Stream) (l : Lent) → s .ids .remote ≡ remote → s .receiver .ack ≡ ack
       → joined at (writeAll (drop at bytes) (seenOf o sent queue outgoing s l)) ≡ writeAll bytes (seenOf o₀ sent₀ queue₀ outgoing₀ s l)
 
@@ -69,6 +78,8 @@ starts remote ack bytes o sent queue outgoing r ls lq =
       payloads = omega (arith, r .bytes);
       places = (refl, refl);
       formed = λ f. f;
+      untouched = λ m l u k. refl;
+      beside = λ i l. refl;
       same = λ s l p q. rw zero-add;
     }
 
@@ -88,6 +99,7 @@ module _ {remote ack : ℕ} {bytes : Bytes} {o₀ : Outbox} {sent₀ queue₀ ou
         formed = g .formed;
         places = (g .rest, g .places .0, g .places .1);
         queued = omega (arith, g .queued, g .near);
+        beside = g .beside;
       }
     where
       all : (s : Stream) (l : Lent) → s .ids .remote ≡ remote → s .receiver .ack ≡ ack
@@ -146,6 +158,22 @@ module _ {remote ack : ℕ} {bytes : Bytes} {o₀ : Outbox} {sent₀ queue₀ ou
             (piece-seen x roomy (g .sent-long) (g .queue-long) (g .acked) (g .rest) s l p q ∙ ap (λ (b : Bytes). sendDataPacket b e) (piece-is bytes at k is))
             ∙ all-turn (drop at bytes) e at k some (tested ∙ free) (piece-length bytes at k is)
 
+        -- the slot of the packet was as it was before the write; of the others nothing changes
+        stays : Stay outgoingSlot (sentSize sent′) outgoing₀ outgoing′
+        stays i l = at-slot (ℕ-discrete i (o .sender .seq % ceiling))
+          where
+            here : sentSize sent′ (o .sender .seq % ceiling) ≡ length (take (at + k - at) (drop at bytes)) + 20
+            here = size-here x roomy (g .sent-long) (g .queue-long) (g .acked) (g .rest)
+
+            at-slot : Dec (i ≡ o .sender .seq % ceiling) → beyond outgoingSlot outgoing′ i (sentSize sent′ i) ≡ beyond outgoingSlot outgoing₀ i (sentSize sent′ i)
+            at-slot (yes e) =
+                rw (e, here)
+                (beyond-here x roomy (g .sent-long) (g .queue-long) (g .acked) (g .rest)
+                ∙ g .untouched (o .sender .seq) (omega arith) (omega (arith, few)) (length (take (at + k - at) (drop at bytes)) + 20))
+            at-slot (no ne) =
+                rw (size-other x roomy (g .sent-long) (g .queue-long) (g .acked) (g .rest) i l ne)
+                (beyond-elsewhere x roomy (g .sent-long) (g .queue-long) (g .acked) (g .rest) i (sentSize sent i) ne ∙ g .beside i l)
+
         pub again : Going remote ack bytes o₀ sent₀ queue₀ outgoing₀ r sent′ queue′ outgoing′ (at + k)
         again =
             let seq = ap (λ (s : Sender). s .seq) (x .numbers) in
@@ -170,5 +198,10 @@ module _ {remote ack : ℕ} {bytes : Bytes} {o₀ : Outbox} {sent₀ queue₀ ou
               payloads = omega arith;
               places = (ap (λ (q : Queue). q .states) (x .places) ∙ g .places .0, ap (λ (q : Queue). q .gone) (x .places) ∙ g .places .1);
               formed = λ f. piece-formed x roomy (g .sent-long) (g .queue-long) (g .acked) (g .rest) (g .formed f);
+              untouched = λ m l u j.
+                  beyond-elsewhere x roomy (g .sent-long) (g .queue-long) (g .acked) (g .rest) (m % ceiling) j
+                  (apart (o .sender .«remote_acked») m (o .sender .seq) (omega (arith, g .acked)) (omega arith) (g .acked) (omega arith) (λ e. omega arith))
+                  ∙ g .untouched m (omega arith) (omega arith) j;
+              beside = stays;
               same = λ s l p q. turn s l p q ∙ g .same s l p q;
             }

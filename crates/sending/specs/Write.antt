@@ -6,7 +6,9 @@ use mathlib.Core.Bool.{true, false}
 use lib.ListN.{length, drop}
 use Rattle.model.specs.Sending.{piece, goes, writeLoop}
 use Rattle.records.specs.declared.Stream.{Stream}
+use Rattle.records.specs.Cut.{outgoingSlot}
 use Rattle.records.specs.Seen.{Lent, seen, seenSender, formedQueue}
+use Rattle.records.specs.Beside.{Stay, sentSize}
 use Rattle.pieces.specs.declared.Outbox.{Outbox}
 use Rattle.pieces.specs.Piece.{withOutbox, withSent}
 use Rattle.sending.specs.declared.Written.{Written}
@@ -36,3 +38,5 @@ pub record Writes (o : Outbox) (remote ack : ℕ) (bytes sent queue outgoing : L
   pub formed : formedQueue (o .queue) queue ≡ true → formedQueue (r .outbox .queue) queue′ ≡ true
   pub places : (r .outbox .queue .left ≡ 0) × (r .outbox .queue .states ≡ o .queue .states) × (r .outbox .queue .gone ≡ o .queue .gone)
   pub queued : r .outbox .queue .count ≤ 127
+  -- what the slots hold past their packets stays
+  pub beside : Stay outgoingSlot (sentSize sent′) outgoing outgoing′

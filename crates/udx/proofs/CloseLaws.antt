@@ -128,4 +128,5 @@ module _ (s : Stream) (t : Totals) (l : Lent) (len : length (l .queue) ≡ 128) 
               (record { outcome = refl; count = refl; segment = refl; end = terminate-seen s t l x ConnectionReset ended sent refl refl refl refl (whole .words) });
           stays = λ h. still-laid (closedStep s x a .stream) after stores-same (whole .receiver) (sent .formed (whole .words));
           changes-nothing = λ why z. absurd (let z′ : _≡_ {A = ℕ} 0 1 = cc in omega arith);
+          beside = record { outgoing = λ i l. refl; incoming = λ i l. refl };
         }

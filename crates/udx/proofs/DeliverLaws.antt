@@ -255,4 +255,5 @@ module _ (s : Stream) (t : Totals) (l : Lent) (len : length (l .queue) ≡ 128) 
                   stays = λ z.
                       still-laid (d .stream) after stores-same (laid-said (d .stream .receiver) (y .laid (laid-says (s .receiver) (whole .receiver)))) (y .formed);
                   changes-nothing = λ why z. absurd (let z′ : _≡_ {A = ℕ} 0 1 = cc in omega arith);
+                  beside = record { outgoing = λ i l. refl; incoming = y .beside };
                 }

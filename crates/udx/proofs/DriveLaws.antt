@@ -75,6 +75,7 @@ module _ (s : Stream) (t : Totals) (l : Lent) (len : length (l .queue) ≡ 128) 
                 (record { outcome = refl; count = refl; segment = refl; end = refl });
             stays = λ h. still-laid (doneStep clock s t .stream) l (whole .stores) (whole .receiver) (whole .words);
             changes-nothing = λ why z. absurd (let z′ : _≡_ {A = ℕ} 0 1 = cc in omega arith);
+            beside = record { outgoing = λ i l. refl; incoming = λ i l. refl };
           }
 
       -- polled
@@ -95,6 +96,7 @@ module _ (s : Stream) (t : Totals) (l : Lent) (len : length (l .queue) ≡ 128) 
               stays = λ h.
                   still-laid (p .stream) after stores-same (subst (λ (r : Receiver). formedReceiver r ≡ true) (sym (y .receiver)) (whole .receiver)) (y .formed);
               changes-nothing = λ why z. absurd (let z′ : _≡_ {A = ℕ} 0 1 = cc in omega arith);
+              beside = record { outgoing = λ i l. refl; incoming = λ i l. refl };
             }
 
     -- a queue at rest has at most 63 state packets and an entry for each of 32 numbers

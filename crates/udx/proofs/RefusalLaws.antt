@@ -133,6 +133,7 @@ refused-answers call s t l why e =
       agrees = refused-agrees call s t l why e;
       stays = λ h. h;
       changes-nothing = λ why′ z. record { stream = refl; totals = refl; lent = refl };
+      beside = record { outgoing = λ i l. refl; incoming = λ i l. refl };
     }
 
 -- an answer without bytes leaves the buffer

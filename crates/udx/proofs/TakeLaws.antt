@@ -90,6 +90,7 @@ module _ (s : Stream) (t : Totals) (l : Lent) (buf : Bytes) (len : length (l .qu
                 agrees = subst (λ (a : Answer). Agrees a (nothingStep s t) l) (sym e) (record { outcome = refl; count = refl; segment = refl; end = refl });
                 stays = λ z. z;
                 changes-nothing = λ why z. record { stream = refl; totals = refl; lent = refl };
+                beside = record { outgoing = λ i l. refl; incoming = λ i l. refl };
               };
           bytes = puts-nothing buf (onRecords (take (length buf)) s t l) (ap (λ (a : Answer). a .bytes) e);
         }
@@ -145,6 +146,7 @@ module _ (s : Stream) (t : Totals) (l : Lent) (buf : Bytes) (len : length (l .qu
                     agrees = subst (λ (a : Answer). Agrees a (takenStep s t r) after) (sym batch-answer) agreed;
                     stays = λ z. still-laid (takenStream (r .queue) s) after (whole .stores) (whole .receiver) (queue-said (r .queue) (l .queue) (x .formed));
                     changes-nothing = λ why z. absurd (ready-other why z);
+                    beside = record { outgoing = λ i l. refl; incoming = λ i l. refl };
                   };
               bytes = handed .took .bytes ∙ ap (λ (a : Answer). put buf 0 (a .bytes)) (sym batch-answer);
             }

@@ -103,4 +103,5 @@ module _ (s : Stream) (t : Totals) (l : Lent) (bytes : Bytes) (len : length (l .
             agrees = subst (λ (a : Answer). Agrees a step after) (sym acting) agreed;
             stays = λ z. still-laid (step .stream) after stores-same (whole .receiver) (x .formed (whole .words));
             changes-nothing = λ why z. absurd (not-refused (eqb (length bytes) 0 || ltb 0 (w .count)) why z);
+            beside = record { outgoing = x .beside; incoming = λ i l. refl };
           }

@@ -13,6 +13,7 @@ use Rattle.model.specs.Answers.{Answer, refused}
 use Rattle.records.specs.declared.Stream.{Stream}
 use Rattle.records.specs.declared.Totals.{Totals}
 use Rattle.records.specs.Seen.{Lent, seen, formed}
+use Rattle.records.specs.Beside.{Beside}
 use Rattle.records.specs.Open.{storesTest}
 use Rattle.answers.specs.declared.step.Step.{Step}
 
@@ -46,3 +47,5 @@ pub record Answers (call : End → Answer) (s : Stream) (t : Totals) (before : L
   -- records that are laid out stay so
   pub stays : laidOut s before ≡ true → laidOut (r .stream) after ≡ true
   pub changes-nothing : (why : Refusal) → r .outcome ≡ Refused why → Unchanged s t before r after
+  -- what the slots of the stores hold past their packets stays
+  pub beside : Beside before after
