@@ -1,17 +1,12 @@
 // The drill's commands on an end, each with its line.
 ghost use Prim.Native.Nat.{_≤_};
 ghost use lib.ListN.{length};
-use crate::coding::Drill;
-use crate::lines;
-use crate::lines::Name;
 use crate::numbers::numbers;
-use crate::spoiling;
-use crate::spoiling::SPARE_HEADERS;
-use crate::spoiling::SPARE_INCOMING;
-use crate::spoiling::SPARE_OUTGOING;
 use constants::HEADER_STORE;
 use constants::INCOMING_STORE;
 use constants::OUTGOING_STORE;
+use drill_lines::Name;
+use drill_script::Drill;
 use ends::End;
 use error::Outcome;
 use error::UdxError;
@@ -22,6 +17,9 @@ use play::Acted;
 use play::SCRATCH;
 use records::least;
 use rtt::Nanos;
+use spoiling::SPARE_HEADERS;
+use spoiling::SPARE_INCOMING;
+use spoiling::SPARE_OUTGOING;
 use text::LINE;
 
 // The bytes from a place of a command on, n of them, or none where they are not there.
@@ -49,7 +47,7 @@ fn raw(
     let c = ends::deliver(e, datagram, clock, outgoing, incoming, headers);
     let end = c.end;
     let outcome = c.outcome;
-    let len = lines::put_line(line, Name::Raw, number, outcome);
+    let len = drill_lines::put_line(line, Name::Raw, number, outcome);
     Acted { end, len }
 }
 
@@ -124,13 +122,13 @@ fn base(e: End, number: u8, seq: u32, ack: u32, window: u32, line: &mut [u8; LIN
     ensures { λ r. ⌜ r .len ≤ 8_400 ⌝ }
 {
     if both(is_empty(e), 1_400 <= window) {
-        let len = lines::put_line(line, Name::Base, number, Outcome::Ready);
+        let len = drill_lines::put_line(line, Name::Base, number, Outcome::Ready);
         return Acted {
             end: based(e, seq, ack, window),
             len,
         };
     }
-    let len = lines::put_line(line, Name::Base, number, Outcome::Nothing);
+    let len = drill_lines::put_line(line, Name::Base, number, Outcome::Nothing);
     Acted { end: e, len }
 }
 
@@ -166,7 +164,7 @@ fn open(
         headers,
     );
     let outcome = o.outcome;
-    let len = lines::put_line(line, Name::Open, number, outcome);
+    let len = drill_lines::put_line(line, Name::Open, number, outcome);
     let mut end = e;
     if is_ready(outcome) {
         let stream = o.stream;
@@ -217,7 +215,7 @@ fn room(
     let n = least(c.count, scratch.len());
     let total = sum(&scratch[0..n]);
     let outcome = c.outcome;
-    let len = lines::put_room(
+    let len = drill_lines::put_room(
         line,
         number,
         outcome,
@@ -241,7 +239,7 @@ fn look<'a>(
 {
     let shown = ends::look(e, outgoing, incoming, headers);
     let n = least(shown.len(), 4_096);
-    let len = lines::put_look(line, number, &shown[0..n]);
+    let len = drill_lines::put_look(line, number, &shown[0..n]);
     Acted { end: e, len }
 }
 
@@ -250,7 +248,7 @@ fn encode_into(h: Header, buf: &mut [u8], line: &mut [u8; LINE]) -> usize
     ensures { λ r. ⌜ r ≤ 8_400 ⌝ }
 {
     let outcome = h.encode(buf);
-    lines::put_encoded(line, outcome, buf)
+    drill_lines::put_encoded(line, outcome, buf)
 }
 
 // The buffer that an encode writes to, filled with aa before.
@@ -266,8 +264,8 @@ fn decode(bytes: &[u8], line: &mut [u8; LINE]) -> usize
     ensures { λ r. ⌜ r ≤ 8_400 ⌝ }
 {
     match Header::from_bytes(bytes) {
-        Decoded::Packet(h) => lines::put_decoded(line, h),
-        Decoded::Refused(why) => lines::put_not_decoded(line, Outcome::Refused(why)),
+        Decoded::Packet(h) => drill_lines::put_decoded(line, h),
+        Decoded::Refused(why) => drill_lines::put_not_decoded(line, Outcome::Refused(why)),
     }
 }
 
@@ -331,7 +329,7 @@ pub fn act(
         Drill::Look { end } => look(e, end, outgoing, incoming, headers, line),
         Drill::Numbers { end } => {
             let all = numbers(e);
-            let len = lines::put_all_numbers(line, end, &all);
+            let len = drill_lines::put_all_numbers(line, end, &all);
             Acted { end: e, len }
         }
         Drill::Encode { length, header } => {
@@ -360,7 +358,7 @@ pub fn act(
                 spare_incoming,
                 spare_headers,
             );
-            let len = lines::put_line(line, Name::Spoil, end, outcome);
+            let len = drill_lines::put_line(line, Name::Spoil, end, outcome);
             Acted { end: e, len }
         }
         Drill::Bad => Acted { end: e, len: 0 },

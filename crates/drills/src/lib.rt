@@ -1,11 +1,7 @@
 // The drill's commands beside the session's: what they read, do and say stands in docs/DRILL.md.
 mod acts;
-mod breaking;
-mod coding;
-mod lines;
 mod numbers;
 mod running;
-mod spoiling;
 
 pub use running::run_one;
 pub use spoiling::SPARE_HEADERS;

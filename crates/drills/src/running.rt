@@ -3,18 +3,17 @@ ghost use Prim.Native.Nat.{_<_, _≤_};
 ghost use lib.ListN.{length};
 ghost use Rattle.play.specs.Turned.{Turned};
 use crate::acts;
-use crate::coding;
-use crate::coding::Drill;
-use crate::spoiling::SPARE_HEADERS;
-use crate::spoiling::SPARE_INCOMING;
-use crate::spoiling::SPARE_OUTGOING;
 use constants::HEADER_STORE;
 use constants::INCOMING_STORE;
 use constants::OUTGOING_STORE;
+use drill_script::Drill;
 use kept::KEPT_STORE;
 use play::Ends;
 use play::SCRATCH;
 use play::Turn;
+use spoiling::SPARE_HEADERS;
+use spoiling::SPARE_INCOMING;
+use spoiling::SPARE_OUTGOING;
 use text::LINE;
 
 // The end that a command is for: 0 where it is for none of them, 2 where it ends the run, 3 where the session runs it.
@@ -67,7 +66,7 @@ fn command_at(script: &[u8], at: usize) -> Placed
     requires { ⌜ at < length (now script) ⌝ }
     ensures { λ r. ⌜ (at < r .next) × (r .next ≤ length (now (script .entry))) ⌝ }
 {
-    let p = coding::parse(&script[at..]);
+    let p = drill_script::parse(&script[at..]);
     let drill = p.drill;
     Placed {
         drill,

@@ -1,8 +1,10 @@
 // One call on a copy of an end with one thing broken. The stores are copied into spare ones, which have a byte more than a store, so that
 // one of another length can be lent.
+mod breaking;
+
 ghost use Prim.Native.Nat.{_+_, _≤_};
 ghost use lib.ListN.{length};
-use crate::breaking::broken;
+use breaking::broken;
 use constants::HEADER_STORE;
 use constants::INCOMING_STORE;
 use constants::OUTGOING_STORE;

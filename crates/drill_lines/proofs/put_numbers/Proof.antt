@@ -1,11 +1,11 @@
--- `drills::lines::put_numbers` meets its contract: a number takes 21 bytes at most.
+-- `drill_lines::put_numbers` meets its contract: a number takes 21 bytes at most.
 use Prim.Native.Nat.{_+_, _*_, _-_, _≤_}
 use mathlib.Core.Path.{_≡_}
 use native.Mathlib.Omega.{arith}
 use borrow.Author.Needs.{needs}
 use lib.ListN.{length}
-use Rattle.drills.proofs.lines.put_numbers.Statement.{statement}
-use Rattle.drills.proofs.lines.put_numbers.Tie as tie
+use Rattle.drill_lines.proofs.put_numbers.Statement.{statement}
+use Rattle.drill_lines.proofs.put_numbers.Tie as tie
 
 abbrev Inv-loop : tie.InvT-loop
 Inv-loop out₀ at numbers to₀ i₀ out to i = (i ≤ length numbers) × (to ≤ at + 21 * i) × (length out ≡ length out₀)
