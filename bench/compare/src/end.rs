@@ -18,7 +18,7 @@ pub const HEADER: usize = 20;
 pub const SEGMENTS: u8 = 10;
 /// Both ends have this id: a pair of ends has a line of its own.
 pub const ID: u32 = 1;
-/// Bytes of a line of the port: 32 packets are four batches, and the take where none is left asks for the room of one more.
+/// Bytes of a line: 32 packets are four batches, and a take where none is left asks for the room of one more.
 pub const LINE: usize = 5 * udx::TAKE_ROOM;
 
 pub trait End {

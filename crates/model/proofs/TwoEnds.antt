@@ -175,7 +175,9 @@ carried s r v w =
       pieces = w .pieces .whole;
       kept = λ n l b.
           let (p, e) = w .outstanding .still-stored n l (let z = w .pieces .numbered in omega arith) in
-          (p, e, (let d = w .stored n p e .1 in ap (drop 20) (d .encoded) ∙ payload-back _ (getD pieces n [])));
+          (p, e, in-piece n p e);
+      stored = λ n p e. (w .stored n p e .1 .is-piece, in-piece n p e);
+      held = λ n h e. (w .received .held n h e .is-piece, w .received .held n h e .payload);
       below-ack = w .received .below-ack;
       ack-missing = λ m. no (w .received .from-ack ack m);
     }
@@ -196,6 +198,10 @@ carried s r v w =
         ∙ ap (λ (z : Bytes). z ++ joined (drop ack pieces))
         (sym (unread-all pieces (r .past .brought) (w .pieces .short) (suc (ack - r .end .receiver .readCursor)) (r .end) reads v (le-refl _) (w .ack-missing) (w .received)))
         ∙ append-assoc reads (unreadInOrder (r .end)) (joined (drop ack pieces))
+
+    -- behind its header a stored packet is its piece
+    in-piece : (n : ℕ) (p : Packet) → get (s .end .sender .outgoing) n ≡ some p → drop 20 (p .bytes) ≡ getD pieces n []
+    in-piece n p e = ap (drop 20) (w .stored n p e .1 .encoded) ∙ payload-back _ (getD pieces n [])
 
     no : (ack < ack) ⊎ There (r .end .receiver .incoming) ack → ⊥
     no (inl l) = omega arith

@@ -10,17 +10,19 @@ use Rattle.rtt.specs.Estimate as estimate
 use Rattle.rtt.specs.Estimate.{sampled}
 use Rattle.rtt.specs.Window.{grown, halved}
 use Rattle.model.specs.Lists.{Bytes}
-use Rattle.model.specs.Slots.{noSlots}
+use Rattle.model.specs.Slots.{noSlots, get}
 use Rattle.model.specs.Stream.{Sender, fresh, withSender}
 use Rattle.model.specs.Sending.{goes, sendDataPacket}
+use Rattle.model.specs.Receiving.{onAckSender}
+use Rattle.model.specs.Driving.{due, backedOff, timeOutLoop, checkTimeouts}
 
 -- what a definition gives, and what 01 says that it is
 pub record Edge : Type 0 where
   pub found : ℕ
-  pub due : ℕ
+  pub stated : ℕ
 
 abbrev edge : ℕ → ℕ → Edge
-edge f d = record { found = f; due = d }
+edge f d = record { found = f; stated = d }
 
 abbrev ms : ℕ → ℕ
 ms n = n * 1_000_000
@@ -46,15 +48,28 @@ oneByte = 0 ∷ []
 abbrev inflightThen : ℕ
 inflightThen = cond (goes oneByte nearlyFull) ((sendDataPacket oneByte (withSender nearlyFull (fresh 1 2 10 0))) .sender .inflight) 0
 
+-- a sender with one packet that was not acknowledged, and this window
+abbrev withWindow : ℕ → Sender
+withWindow w = record { seq = 1; remoteAcked = 0; largestAck = 0; inflight = 0; cwnd = w; outgoing = noSlots }
+
+-- the window after a delivery that acknowledges the packet
+abbrev acknowledged : ℕ → ℕ
+acknowledged w =
+    onAckSender (record { typ = 0; «data_offset» = 0; «stream_id» = 1; «recv_win» = 0; seq = 0; ack = 1 }) (withWindow w) .cwnd
+
+-- the window after the timer was found due: a fresh stream's deadline is 1,000 ms
+abbrev timedOut : ℕ → ℕ
+timedOut w = checkTimeouts (ms 1_000) (withSender (withWindow w) (fresh 1 2 10 0)) .sender .cwnd
+
 abbrev pub edges : List Edge
 edges =
     -- "window 65,534 grows to 66,934; 65,535 to 65,564; 1,960,001 by 1"
-    edge (grown 65_534) 66_934
-    ∷ edge (grown 65_535) 65_564
-    ∷ edge (grown 1_960_001) 1_960_002
+    edge (acknowledged 65_534) 66_934
+    ∷ edge (acknowledged 65_535) 65_564
+    ∷ edge (acknowledged 1_960_001) 1_960_002
     -- "a due timeout takes 2,801 to 1,400, and 1,400 stays"
-    ∷ edge (halved 2_801) 1_400
-    ∷ edge (halved 1_400) 1_400
+    ∷ edge (timedOut 2_801) 1_400
+    ∷ edge (timedOut 1_400) 1_400
     -- "SACK payloads of 8, 9, 16, 17 bytes hold 0, 1, 1, 2 blocks"
     ∷ edge (blocksOf 8) 0
     ∷ edge (blocksOf 9) 1
@@ -72,10 +87,10 @@ edges =
 abbrev found : Edge → ℕ
 found e = e .found
 
-abbrev due : Edge → ℕ
-due e = e .due
+abbrev stated : Edge → ℕ
+stated e = e .stated
 
 -- every edge is as 01 says
-pub edges-hold : map found edges ≡ map due edges
-unfolding grown halved sampled blocksIn goes fresh
+pub edges-hold : map found edges ≡ map stated edges
+unfolding grown halved sampled blocksIn goes fresh due backedOff timeOutLoop checkTimeouts get noSlots
 edges-hold = refl

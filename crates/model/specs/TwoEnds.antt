@@ -14,7 +14,7 @@ use Rattle.error.specs.declared.Outcome.the-variants.{Ready, Waiting, Done, Not
 use Rattle.packet.specs.Header.{fields, hasType}
 use Rattle.model.specs.Lists.{Bytes, joined, cut, isEmpty}
 use Rattle.model.specs.Slots.{get}
-use Rattle.model.specs.Stream.{Packet, End, fresh}
+use Rattle.model.specs.Stream.{Packet, Held, End, fresh}
 use Rattle.model.specs.Answers.{Answer}
 use Rattle.model.specs.Sending.{openRefusal}
 use Rattle.model.specs.Receiving.{read}
@@ -156,6 +156,12 @@ pub record Carried (s r : Side) : Type 0 where
   pub pieces : joined (s .past .pieces) ≡ s .past .accepted
   -- the sender still stores each of those packets
   pub kept : (n : ℕ) → r .end .receiver .ack ≤ n → n < length (s .past .pieces) → Kept s r n (getD (s .past .pieces) n [])
+  -- "a packet stored or held is there under its number, with just that piece's bytes as payload": each one that the sender stores or
+  -- the receiver holds, whichever numbers they are
+  pub stored : (n : ℕ) (p : Packet) → get (s .end .sender .outgoing) n ≡ some p
+      → (n < length (s .past .pieces)) × (drop 20 (p .bytes) ≡ getD (s .past .pieces) n [])
+  pub held : (n : ℕ) (h : Held) → get (r .end .receiver .incoming) n ≡ some h
+      → (n < length (s .past .pieces)) × (h .payload ≡ getD (s .past .pieces) n [])
   -- the receiver's ack is "the lowest number that no delivery at the receiver, refused ones left out, brought as DATA"
   pub below-ack : (n : ℕ) → n < r .end .receiver .ack → List·Memᴰ n (r .past .brought)
   pub ack-missing : List·Memᴰ (r .end .receiver .ack) (r .past .brought) → ⊥

@@ -16,7 +16,7 @@ use Rattle.promise.specs.TwoEndsOnRecords.{Ends, Turn, onA, onB, turned,
 use Rattle.promise.proofs.Runs.{open-clear, open-stands}
 use Rattle.promise.proofs.Line.{seenSide, seenEnds, commandsOf, Laid, BothLaid, turn-laid, run-same, line-same}
 use Rattle.promise.proofs.Unread.{readTurns, reads-line, reads-last, unread-is}
-use Rattle.promise.proofs.StoredOn.{stored-on}
+use Rattle.promise.proofs.StoredOn.{stored-on, held-on}
 
 -- one list of calls after another
 
@@ -79,6 +79,8 @@ module _ (i j segmentsA segmentsB clockA clockB : ℕ) (idI : Id i) (idJ : Id j)
             (promised (turns ++ readTurns vs) (line-append turns (readTurns vs) start line (reads-line vs last w h))));
         pieces = c .pieces;
         kept = λ n l u. stored-on (w .a) laidA n _ (c .kept n l u);
+        stored = λ n p e. let (l, q) = c .stored n p e in (l, stored-on (w .a) laidA n _ (p, e, q));
+        held = λ n h e. let (l, q) = c .held n h e in (l, held-on (w .b) laidB n _ h e q);
         below-ack = c .below-ack;
         ack-missing = c .ack-missing;
       }

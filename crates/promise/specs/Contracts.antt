@@ -1,6 +1,6 @@
 -- A call on the records (`Did`, in Runs.antt) is the contract of the exported function, word for word: with the numbers, words, stores and
--- buffers that it was lent and those that it left, its `ensures` is `Did`, and it requires nothing. So an exported function that says less,
--- or asks for more, is noticed here; `write`, `deliver`, `drive`, `take`, `read` and `close`, and beside them `look` and `open`. `x` are the parameters,
+-- buffers that it was lent and those that it left, its `ensures` is `Did`, and it requires nothing. So an exported function whose clause says
+-- less, or that asks for more, is noticed here; `write`, `deliver`, `drive`, `take`, `read` and `close`, and beside them `look` and `open`. `x` are the parameters,
 -- `y` what they are at the end, `r` is the result. Statements only: the proof is proofs/Contracts.antt. Assumes nothing.
 use mathlib.Core.Path.{_≡_}
 use mathlib.Core.List.{[]}

@@ -14,7 +14,7 @@ use lib.ListN.{length, take, drop, getD}
 use Rattle.error.specs.declared.Outcome.{Outcome}
 use Rattle.model.specs.Lists.{Bytes, joined, cut}
 use Rattle.model.specs.Slots.{get}
-use Rattle.model.specs.Stream.{Packet}
+use Rattle.model.specs.Stream.{Packet, Held}
 use Rattle.model.specs.Driving.{datagramsOf}
 use Rattle.model.specs.TwoEnds.{History, noHistory, isRefused, dataNumber, unreadInOrder, Id}
 use Rattle.records.specs.declared.opening.Opened.{Opened}
@@ -131,6 +131,14 @@ pub record StoredBy (x : Side) (n : ℕ) (piece : Bytes) : Type 0 where
   -- in the lent store: slot n mod 32 of 1,400 bytes, behind the 20 of the header
   pub lies : take (length piece) (drop (n % 32 * 1_400 + 20) (x .records .lent .outgoing)) ≡ piece
 
+-- "held .. under its number, with just that piece's bytes as payload"
+pub record HeldBy (x : Side) (n : ℕ) (piece : Bytes) : Type 0 where
+  pub packet : Held
+  pub held : get (seenOf (x .records) .receiver .incoming) n ≡ some packet
+  pub payload : packet .payload ≡ piece
+  -- in the lent store: slot n mod 32 of 1,380 bytes
+  pub lies : take (length piece) (drop (n % 32 * 1_380) (x .records .lent .incoming)) ≡ piece
+
 pub record Carried (s r : Side) : Type 0 where
   -- the bytes read are the first bytes accepted
   pub reads-first : r .past .reads ≡ take (length (r .past .reads)) (s .past .accepted)
@@ -142,6 +150,12 @@ pub record Carried (s r : Side) : Type 0 where
   pub pieces : joined (s .past .pieces) ≡ s .past .accepted
   -- the sender still stores each of those packets
   pub kept : (n : ℕ) → ackOf r ≤ n → n < length (s .past .pieces) → StoredBy s n (getD (s .past .pieces) n [])
+  -- "a packet stored or held is there under its number, with just that piece's bytes as payload": each one that the sender stores or
+  -- the receiver holds, whichever numbers they are
+  pub stored : (n : ℕ) (p : Packet) → get (seenOf (s .records) .sender .outgoing) n ≡ some p
+      → (n < length (s .past .pieces)) × StoredBy s n (getD (s .past .pieces) n [])
+  pub held : (n : ℕ) (h : Held) → get (seenOf (r .records) .receiver .incoming) n ≡ some h
+      → (n < length (s .past .pieces)) × HeldBy r n (getD (s .past .pieces) n [])
   -- the receiver's ack is "the lowest number that no delivery at the receiver, refused ones left out, brought as DATA"
   pub below-ack : (n : ℕ) → n < ackOf r → List·Memᴰ n (r .past .brought)
   pub ack-missing : List·Memᴰ (ackOf r) (r .past .brought) → ⊥

@@ -47,7 +47,7 @@ use Rattle.promise_ways.specs.Calls.{
   eventsOf,
   OpenedInC,
 }
-use Rattle.promise_ways.specs.FromC.{SameFromC, sideOf, PlainEnds, PlainTurn, onA, onB, plainTurned, plainLastOf, PlainOverALine, bothOpenedInC, TwoEndsFromC}
+use Rattle.promise_ways.specs.FromC.{SameFromC, PlainSide, sideOf, PlainEnds, PlainTurn, onA, onB, plainTurned, plainLastOf, PlainOverALine, bothOpenedInC, PlainReadsAlone, CarriedInC, TwoEndsFromC}
 
 -- the numbers of an answer stand for it again
 
@@ -190,25 +190,41 @@ abbrev turnsOf : List PlainTurn → List records.Turn
 turnsOf [] = []
 turnsOf (c ∷ cs) = turnOf c ∷ turnsOf cs
 
-line : (cs : List PlainTurn) (w : PlainEnds) → isStrange (w .a .plain .stream .ending) ≡ false → isStrange (w .b .plain .stream .ending) ≡ false
-    → PlainOverALine cs w → records.OverALine (turnsOf cs) (endsOf w) × (records.lastOf (turnsOf cs) (endsOf w) ≡ endsOf (plainLastOf cs w))
-line [] w j k d = (tt, refl)
-line (onA v ∷ cs) w j k d =
-    let o = one (w .a .plain) (v .request) (v .step) (v .lent) (v .buf) j (d .0 .0) in
-    let rest = line cs (plainTurned (onA v) w) (o .known) k (d .1) in
-    (((o .does, d .0 .1), rest .0), rest .1)
-line (onB v ∷ cs) w j k d =
-    let o = one (w .b .plain) (v .request) (v .step) (v .lent) (v .buf) k (d .0 .0) in
-    let rest = line cs (plainTurned (onB v) w) j (o .known) (d .1) in
-    (((o .does, d .0 .1), rest .0), rest .1)
+-- neither end has a strange byte
+abbrev Known : PlainEnds → Type 0
+Known w = (isStrange (w .a .plain .stream .ending) ≡ false) × (isStrange (w .b .plain .stream .ending) ≡ false)
+
+line : (cs : List PlainTurn) (w : PlainEnds) → Known w → PlainOverALine cs w
+    → records.OverALine (turnsOf cs) (endsOf w) × (records.lastOf (turnsOf cs) (endsOf w) ≡ endsOf (plainLastOf cs w)) × Known (plainLastOf cs w)
+line [] w k d = (tt, refl, k)
+line (onA v ∷ cs) w k d =
+    let o = one (w .a .plain) (v .request) (v .step) (v .lent) (v .buf) (k .0) (d .0 .0) in
+    let rest = line cs (plainTurned (onA v) w) (o .known, k .1) (d .1) in
+    (((o .does, d .0 .1), rest .0), rest .1, rest .2)
+line (onB v ∷ cs) w k d =
+    let o = one (w .b .plain) (v .request) (v .step) (v .lent) (v .buf) (k .1) (d .0 .0) in
+    let rest = line cs (plainTurned (onB v) w) (k .0, o .known) (d .1) in
+    (((o .does, d .0 .1), rest .0), rest .1, rest .2)
+
+-- reads from C are reads on the records
+reads : (vs : List PlainEvent) (last : PlainEvent) (x : Plain) → isStrange (x .stream .ending) ≡ false → PlainReadsAlone vs last x
+    → records.ReadsAlone (eventsOf vs) (eventOf last) (recordsOf x)
+reads [] last x k d = (d .0, one x (last .request) (last .step) (last .lent) (last .buf) k (d .1) .does, d .2)
+reads (v ∷ vs) last x k d =
+    let o = one x (v .request) (v .step) (v .lent) (v .buf) k (d .1) in (d .0, o .does, reads vs last (plainLeft v) (o .known) (d .2))
+
+in-c : (s r : PlainSide) → isStrange (r .plain .stream .ending) ≡ false → records.Carried (sideOf s) (sideOf r) → CarriedInC s r
+in-c s r k c = record { carried = c; unread = λ vs last d. c .unread (eventsOf vs) (eventOf last) (reads vs last (r .plain) k d) }
 
 pub two-ends-from-c : TwoEndsFromC
 two-ends-from-c i j segmentsA segmentsB clockA clockB idI idJ lentA lentB a b openA openB turns d =
     let w = bothOpenedInC a b lentA lentB in
-    let l = line turns w (known-in-c i j segmentsA clockA lentA a openA) (known-in-c j i segmentsB clockB lentB b openB) d in
+    let l = line turns w (known-in-c i j segmentsA clockA lentA a openA, known-in-c j i segmentsB clockB lentB b openB) d in
     let carried =
     two-ends-on-records i j segmentsA segmentsB clockA clockB idI idJ lentA lentB (openedOf a) (openedOf b) (opened-in-c i j segmentsA clockA lentA a openA)
     (opened-in-c j i segmentsB clockB lentB b openB)
     (turnsOf turns)
     (l .0) in
-    rw (l .1) at carried
+    let (out, back) = rw (l .1) at carried in
+    let last = plainLastOf turns w in
+    (in-c (last .a) (last .b) (l .2 .1) out, in-c (last .b) (last .a) (l .2 .0) back)

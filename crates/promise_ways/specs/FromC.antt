@@ -7,10 +7,10 @@ use mathlib.Core.List.{List, [], _∷_}
 use Rattle.model.specs.Stream.{End, fresh}
 use Rattle.model.specs.Driving.{look}
 use Rattle.model.specs.Calls.{answer, after}
-use Rattle.model.specs.TwoEnds.{History, noHistory, Id}
+use Rattle.model.specs.TwoEnds.{History, noHistory, unreadInOrder, Id}
 use Rattle.records.specs.Seen.{Lent}
-use Rattle.promise.specs.Runs.{callOf, callsOf, answerOf, Same}
-use Rattle.promise.specs.TwoEndsOnRecords.{noted, Side, Brings, Carried}
+use Rattle.promise.specs.Runs.{seenOf, callOf, callsOf, answerOf, Same}
+use Rattle.promise.specs.TwoEndsOnRecords.{noted, Side, Brings, IsRead, putByReads, Carried}
 use Rattle.flat.specs.declared.structs.FlatStep.{FlatStep}
 use Rattle.udx_c.specs.declared.batches.FlatPart.{FlatPart}
 use Rattle.udx_c.specs.Shown.{ShownBy, Looks}
@@ -98,6 +98,17 @@ openedSide o l = record { plain = plainOpened o l; past = noHistory }
 abbrev pub bothOpenedInC : (a b : FlatStep) (lentA lentB : Lent) → PlainEnds
 bothOpenedInC a b lentA lentB = record { a = openedSide a lentA; b = openedSide b lentB }
 
+-- "reads alone, 1,380 at a time, .. up to the first that puts none": reads from C, the last one puts none
+abbrev pub PlainReadsAlone : List PlainEvent → PlainEvent → Plain → Type 0
+PlainReadsAlone [] last x = IsRead (eventOf last) × PlainDid x last × (last .step .count ≡ 0)
+PlainReadsAlone (v ∷ vs) last x = IsRead (eventOf v) × PlainDid x v × PlainReadsAlone vs last (plainLeft v)
+
+-- what is promised of the records that the numbers stand for; and what is unread in order is what reads from C put
+pub record CarriedInC (s r : PlainSide) : Type 0 where
+  pub carried : Carried (sideOf s) (sideOf r)
+  pub unread : (vs : List PlainEvent) (last : PlainEvent) → PlainReadsAlone vs last (r .plain)
+      → unreadInOrder (seenOf (recordsOf (r .plain))) ≡ putByReads (eventsOf vs)
+
 abbrev pub TwoEndsFromC : Type 0
 TwoEndsFromC =
     (i j segmentsA segmentsB clockA clockB : ℕ)
@@ -109,4 +120,4 @@ TwoEndsFromC =
     → (turns : List PlainTurn)
     → PlainOverALine turns (bothOpenedInC a b lentA lentB)
     → let w = plainLastOf turns (bothOpenedInC a b lentA lentB) in
-    Carried (sideOf (w .a)) (sideOf (w .b)) × Carried (sideOf (w .b)) (sideOf (w .a))
+    CarriedInC (w .a) (w .b) × CarriedInC (w .b) (w .a)

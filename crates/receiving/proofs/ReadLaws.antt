@@ -7,7 +7,7 @@ use native.Mathlib.Omega.{arith}
 use mathlib.Core.Path.{_≡_, refl, ap, ap₂, sym, _∙_}
 use mathlib.Core.List.{List, [], _++_, append-assoc, append-nil}
 use mathlib.Core.Option.{none, some}
-use mathlib.Core.Bool.{Bool, true, false, cond, _||_}
+use mathlib.Core.Bool.{Bool, true, false, true≢false, cond, _||_}
 use borrow.Author.Tests.{lt-ltb, le-ltb}
 use lib.ListN.{length, set, take, drop, length-append, length-take, length-drop}
 use lib.Seq.{take-take, take-length}
@@ -99,6 +99,7 @@ pub record Going (r : Receiver) (words₀ : List ℕ) (store buf₀ : Bytes) (s 
   pub counted : length bytes ≡ count
   pub within : count ≤ length buf₀
   pub copied : buf ≡ put buf₀ 0 bytes
+  pub unmoved : any ≡ false → s ≡ r
   pub same : joined bytes any (readLoop (visits r s) (length buf₀ - count) (seenReceiver s words₀ store)) ≡ got r words₀ store buf₀
 
 put-none : (buf : Bytes) → buf ≡ put buf 0 []
@@ -121,6 +122,7 @@ read-starts r words store buf a =
       counted = refl;
       within = omega arith;
       copied = put-none buf;
+      unmoved = λ z. refl;
       same = rw (e, z) refl;
     }
 
@@ -160,6 +162,7 @@ module _ {r : Receiver} {words₀ : List ℕ} {store buf₀ : Bytes} {s : Receiv
         copied = q ∙ ap (λ (x : Got). put buf₀ 0 (x .bytes)) e;
         seen = ap (λ (x : Got). x .receiver) e;
         laid = record { from = g .from; width = width };
+        unmoved = g .unmoved;
       }
 
   stops : get (m .incoming) (s .«read_cursor») ≡ none → HasRead r words₀ store buf₀ (record { receiver = s; count = count; finished = any }) words buf
@@ -222,6 +225,7 @@ module _ {r : Receiver} {words₀ : List ℕ} {store buf₀ : Bytes} {s : Receiv
             counted = length-append (g .bytes) (leftBytes store p) ∙ rw (g .counted, q) refl;
             within = omega arith;
             copied = next (leftBytes store p) (omega (arith, q)) (rw all at e);
+            unmoved = λ z. absurd (true≢false z);
             same = rw (room, past) (sym (rw (or-true, ← append-assoc) at turn)) ∙ g .same;
           }
 

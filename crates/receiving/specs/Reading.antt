@@ -2,7 +2,7 @@
 use Prim.Native.Nat.{ℕ, _+_, _-_, _%_, _^_, _≤_, _<_}
 use mathlib.Core.Path.{_≡_}
 use mathlib.Core.List.{List}
-use mathlib.Core.Bool.{true}
+use mathlib.Core.Bool.{true, false}
 use lib.ListN.{length, getD, set, take}
 use Rattle.model.specs.Lists.{Bytes}
 use Rattle.model.specs.Slots.{ceiling}
@@ -69,3 +69,5 @@ pub record HasRead (r : Receiver) (held : List ℕ) (incoming buf : Bytes) (a : 
   pub copied : buf′ ≡ put buf 0 (got r held incoming buf .bytes)
   pub seen : seenReceiver (a .receiver) held′ incoming ≡ got r held incoming buf .receiver
   pub laid : Laid (a .receiver)
+  -- a read that finished no packet moved at most a read offset
+  pub unmoved : a .finished ≡ false → a .receiver ≡ r

@@ -10,6 +10,7 @@ use lib.ListN.{length, getD}
 use borrow.Author.Tests.{ltb-true, ltb-false, leb-true}
 use Rattle.error.specs.declared.UdxError.{UdxError}
 use Rattle.error.specs.declared.UdxError.the-variants as error
+use Rattle.error.specs.declared.Refusal.{Refusal}
 use Rattle.error.specs.declared.Refusal.the-variants as refusal
 use Rattle.error.specs.declared.Outcome.the-variants.{Refused}
 use Rattle.error.specs.declared.Verdict.the-variants as verdict
@@ -99,6 +100,11 @@ other false error.ConnectionReset q = let z : _≡_ {A = ℕ} 0 1 = cc in omega 
 other false error.UnexpectedEof q = let z : _≡_ {A = ℕ} 0 1 = cc in omega arith
 other false error.TimedOut q = let z : _≡_ {A = ℕ} 0 1 = cc in omega arith
 
+-- a refused read finished no packet
+unfinished : (b : Bool) (x : UdxError) (why : Refusal) → outcomeOf b x ≡ Refused why → b ≡ false
+unfinished true x why q = let z : _≡_ {A = ℕ} 0 1 = cc in absurd (omega arith)
+unfinished false x why q = refl
+
 module _ (s : Stream) (t : Totals) (l : Lent) (buf : Bytes) (len : length (l .queue) ≡ 128) where
   abbrev acts : End → Answer
   acts e = readAnswer (readNext (length buf) (e .receiver)) e
@@ -116,6 +122,7 @@ module _ (s : Stream) (t : Totals) (l : Lent) (buf : Bytes) (len : length (l .qu
         agrees = refused-agrees (read (length buf)) s t l refusal.BrokenRecords e;
         stays = λ z. z;
         changes-nothing = λ z. record { stream = refl; totals = refl; lent = refl };
+        same-numbers = λ why z. (refl, refl);
         bytes = puts-nothing buf (onRecords (read (length buf)) s t l) (ap (λ (a : Answer). a .bytes) e);
       }
 
@@ -159,5 +166,7 @@ module _ (s : Stream) (t : Totals) (l : Lent) (buf : Bytes) (len : length (l .qu
             agrees = subst (λ (z : Answer). Agrees z (readStep s t a) after) (sym acting) agreed;
             stays = λ z. still-laid (readStream (a .receiver) s) after (whole .stores) (laid-said (a .receiver) (x .laid)) (whole .words);
             changes-nothing = λ z. absurd (other (a .finished) (s .ending .error) z);
+            same-numbers = λ why z.
+                (ap (λ (r : Receiver). readStream r s) (x .unmoved (unfinished (a .finished) (s .ending .error) why z)), refl);
             bytes = x .copied ∙ ap (λ (z : Answer). put buf 0 (z .bytes)) (sym acting);
           }

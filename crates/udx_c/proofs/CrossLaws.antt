@@ -1,5 +1,7 @@
 -- A call crosses the boundary in one of two ways: refused with 1 for a byte that stands for nothing, or made on the records that the
 -- numbers stand for. Assumes nothing.
+use Prim.Native.Nat.{_≤_}
+use native.Mathlib.Omega.{arith}
 use mathlib.Core.Path.{_≡_, refl, ap, sym, _∙_}
 use mathlib.Core.Bool.{Bool, true, false, true≢false, cond}
 use lib.Dec.{eqb}
@@ -51,6 +53,10 @@ module _ (s : FlatStream) (t : FlatTotals) (l : Lent) (r : FlatPart) where
       go true = refl
       go false = refl
 
+  flag-low : (b : Bool) → cond b 1 0 ≤ 1
+  flag-low true = omega arith
+  flag-low false = omega arith
+
   pub placed-looks : (p : Part) (stream : Stream) (totals : Totals) → isStrange (s .ending) ≡ false → stream ≡ streamOf s → totals ≡ totalsOf t
       → PartOf (shownOf stream totals l) (l .outgoing) (l .headers) p → r ≡ flatPart p → Looks s t l r
   placed-looks p stream totals e hs ht shows a =
@@ -58,6 +64,6 @@ module _ (s : FlatStream) (t : FlatTotals) (l : Lent) (r : FlatPart) where
       record {
         known =
             λ y.
-            rw (a, ← hs, ← ht) (record { bytes = rw store (shows .bytes); within = rw store (shows .within); long = shows .long });
+            rw (a, ← hs, ← ht) (record { bytes = rw store (shows .bytes); within = rw store (shows .within); long = shows .long; flag = flag-low (p .header) });
         strange = λ y. both (isStrange (s .ending)) y e;
       }

@@ -32,6 +32,8 @@ pub record ShownBy (shown outgoing headers : Bytes) (p : FlatPart) : Type 0 wher
   pub bytes : bytesOf p outgoing headers ≡ shown
   pub within : p .start + p .length ≤ length (storeOf p outgoing headers)
   pub long : p .length ≡ length shown
+  -- 1 or 0, so that a test of any kind tells the stores apart
+  pub flag : p .header ≤ 1
 
 pub record Looks (s : FlatStream) (t : FlatTotals) (l : Lent) (r : FlatPart) : Type 0 where
   -- what stands there is what `look` shows

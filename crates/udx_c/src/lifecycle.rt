@@ -1,6 +1,6 @@
 // Open, drive and close for C.
 ghost use Rattle.model.specs.Sending as model;
-ghost use Rattle.model.specs.Driving as driving;
+ghost use Rattle.model.specs.Driving as model_driving;
 ghost use Rattle.broken_records.specs.Broken.{lent};
 ghost use Rattle.udx.specs.Agree.{Answers};
 ghost use Rattle.udx_c.specs.Crosses.{Crosses, FlatOpens};
@@ -44,7 +44,7 @@ pub extern "C" fn udx_drive(
     headers: &mut [u8],
     clock: u64,
 ) -> FlatStep
-    ensures { λ r. ⌜ Crosses (Answers (driving.drive clock)) stream totals (lent (now (sent .entry)) (now (held .entry)) (now (queue .entry)) (now (outgoing .entry)) (now (incoming .entry)) (now (headers .entry))) r (lent (now (sent .exit)) (now (held .entry)) (now (queue .exit)) (now (outgoing .entry)) (now (incoming .entry)) (now (headers .exit))) ⌝ }
+    ensures { λ r. ⌜ Crosses (Answers (model_driving.drive clock)) stream totals (lent (now (sent .entry)) (now (held .entry)) (now (queue .entry)) (now (outgoing .entry)) (now (incoming .entry)) (now (headers .entry))) r (lent (now (sent .exit)) (now (held .entry)) (now (queue .exit)) (now (outgoing .entry)) (now (incoming .entry)) (now (headers .exit))) ⌝ }
 {
     let ending = stream.ending;
     if strange(ending) {

@@ -2,7 +2,7 @@
 ghost use mathlib.Core.Path.{_≡_};
 ghost use mathlib.Core.Bool.{true};
 ghost use Rattle.model.specs.Sending as model;
-ghost use Rattle.model.specs.Receiving as receiving;
+ghost use Rattle.model.specs.Receiving as model_receiving;
 ghost use Rattle.broken_records.specs.Broken.{lent};
 ghost use Rattle.udx.specs.Agree.{Answers};
 ghost use Rattle.udx.specs.Read.{Gives};
@@ -55,7 +55,7 @@ pub extern "C" fn udx_deliver(
     datagram: &[u8],
     clock: u64,
 ) -> FlatStep
-    ensures { λ r. ⌜ Crosses (Answers (receiving.deliver (now (datagram .entry)) clock)) stream totals (lent (now (sent .entry)) (now (held .entry)) (now (queue .entry)) (now (outgoing .entry)) (now (incoming .entry)) (now (headers .entry))) r (lent (now (sent .exit)) (now (held .exit)) (now (queue .exit)) (now (outgoing .entry)) (now (incoming .exit)) (now (headers .exit))) ⌝ }
+    ensures { λ r. ⌜ Crosses (Answers (model_receiving.deliver (now (datagram .entry)) clock)) stream totals (lent (now (sent .entry)) (now (held .entry)) (now (queue .entry)) (now (outgoing .entry)) (now (incoming .entry)) (now (headers .entry))) r (lent (now (sent .exit)) (now (held .exit)) (now (queue .exit)) (now (outgoing .entry)) (now (incoming .exit)) (now (headers .exit))) ⌝ }
 {
     let ending = stream.ending;
     if strange(ending) {
