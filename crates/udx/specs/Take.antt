@@ -2,7 +2,7 @@
 use mathlib.Core.Path.{_≡_}
 use lib.ListN.{length}
 use Rattle.model.specs.Lists.{Bytes}
-use Rattle.model.specs.Driving.{take}
+use Rattle.model.specs.Driving as model
 use Rattle.records.specs.declared.Stream.{Stream}
 use Rattle.records.specs.declared.Totals.{Totals}
 use Rattle.records.specs.Put.{put}
@@ -12,5 +12,5 @@ use Rattle.udx.specs.Agree.{onRecords, Answers}
 
 -- a take answers as the model's, and its bytes stand at the front of the buffer, whose other bytes stay
 pub record Hands (s : Stream) (t : Totals) (before : Lent) (buf : Bytes) (r : Step) (after : Lent) (buf′ : Bytes) : Type 0 where
-  pub answers : Answers (take (length buf)) s t before r after
-  pub bytes : buf′ ≡ put buf 0 ((onRecords (take (length buf)) s t before) .bytes)
+  pub answers : Answers (model.take (length buf)) s t before r after
+  pub bytes : buf′ ≡ put buf 0 ((onRecords (model.take (length buf)) s t before) .bytes)
