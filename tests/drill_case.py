@@ -1,8 +1,10 @@
 #!/usr/bin/env python3
 """Writes crates/drill/stdin and stdout: a script with each command of docs/DRILL.md at least once, and a refusal where it has one of its
-own. The lines are derived by hand from 01 and docs/DRILL.md, not from the program. Run it from anywhere: python3 tests/drill_case.py
+own. The lines are derived by hand from 01 and docs/DRILL.md, not from the program. Run it from anywhere: python3 tests/drill_case.py; with
+--check it writes nothing and fails where the files are others.
 """
 import pathlib
+import sys
 
 HERE = pathlib.Path(__file__).resolve().parent.parent / "crates" / "drill"
 
@@ -75,6 +77,11 @@ step(0x15, end[0], line=f"numbers 0 1 0 0 23 2800 0 0 0 0 {second} {second} 0 0 
 # no such command
 step(0x19, line=f"script {len(script)}")
 
-(HERE / "stdin").write_bytes(script)
-(HERE / "stdout").write_text("".join(line + "\n" for line in lines))
+text = "".join(line + "\n" for line in lines)
+if sys.argv[1:] == ["--check"]:
+    if ((HERE / "stdin").read_bytes(), (HERE / "stdout").read_text()) != (bytes(script), text):
+        sys.exit("crates/drill: stdin or stdout is not what tests/drill_case.py writes")
+else:
+    (HERE / "stdin").write_bytes(script)
+    (HERE / "stdout").write_text(text)
 print(f"{len(lines)} commands, {len(script)} bytes")

@@ -2,10 +2,12 @@
 """Writes crates/rules_test/stdin and stdout: records at and past the limit of every rule of 01, with the answer that 01 gives.
 
 Each case says by its label whether the rule is kept (`at`) or broken (`past`); `keeps` below is 01's list of rules, written down once
-more from its sentences, and has to agree with every label. Run it from anywhere: python3 tests/rules_cases.py
+more from its sentences, and has to agree with every label. Run it from anywhere: python3 tests/rules_cases.py; with --check it writes
+nothing and fails where the files are others.
 """
 import copy
 import pathlib
+import sys
 
 HERE = pathlib.Path(__file__).resolve().parent.parent / "crates" / "rules_test"
 TOP = 4_294_967_295
@@ -246,6 +248,9 @@ def main():
         c.change(f"queued {n}", kept, lambda r, n=n: r["entries"].append((n, 1_400)))
     for k in (63, 64):
         c.change(f"{k} state packets", k <= 63, lambda r, k=k: r["entries"].extend(["state"] * (k - 2)))
+    c.change("gone with none left to take", False, lambda r: r.update(gone=1))
+    c.change("a word numbered seq", True, lambda r: r["stored"].__setitem__(40, [1_401, 8, 0, None]), sums=False)
+    c.change("a word numbered top", True, lambda r: r["held"].__setitem__(13, [1_381, 0]), sums=False)
 
     full = fresh()
     full.update(seq=132, remote_acked=100, ack=200, read_cursor=200, top=232, last=9, drive=9, cwnd=TOP, segments=1)
@@ -281,11 +286,17 @@ def main():
         c.change(f"{k} state packets of 128 to take", False, kinds)
     for size, kept in ((20, False), (21, True), (1_400, True), (1_401, False)):
         c.change(f"to take, gone, length {size}", kept, lambda r, s=size: r["entries"].__setitem__(6, (7, s)))
+    c.change("65 places of state packets", False, lambda r: r.update(gone=1, left=64, entries=["state"] * 65))
+    c.change("129 entries", False, lambda r: r.update(gone=0, left=128, entries=[(32, 30)] + ["state"] * 64 + [(32, 30)] * 64))
     c.change("to take, length of another", False, lambda r: r["entries"].__setitem__(3, (33, 31)))
 
     assert len(c.stdin) <= 65_536, len(c.stdin)
-    (HERE / "stdin").write_bytes(c.stdin)
-    (HERE / "stdout").write_text(c.stdout)
+    if sys.argv[1:] == ["--check"]:
+        if ((HERE / "stdin").read_bytes(), (HERE / "stdout").read_text()) != (c.stdin, c.stdout):
+            sys.exit("crates/rules_test: stdin or stdout is not what tests/rules_cases.py writes")
+    else:
+        (HERE / "stdin").write_bytes(c.stdin)
+        (HERE / "stdout").write_text(c.stdout)
     print(f"{c.count} cases, {len(c.stdin)} bytes, {c.stdout.count('broken')} broken")
 
 

@@ -2,11 +2,15 @@
  * The boundary from C and from C++: layout, 01's example session, and garbage in every field and every length. Says what failed, and ends
  * with a count of checks.
  */
+#ifndef _GNU_SOURCE
+#define _GNU_SOURCE /* MAP_ANONYMOUS */
+#endif
 #include "raw.h"
 #include "udx.h"
 #include <stdio.h>
 #include <stdlib.h>
 #include <string.h>
+#include <sys/mman.h>
 
 static unsigned long checks, failures;
 
@@ -153,8 +157,9 @@ static void example(void) {
     EXPECT(ends[0].stream.timing.deadline == 1000000000u && ends[0].stream.sender.seq == 1 && ends[0].stream.sender.remote_acked == 0);
 }
 
-/* A stream that has something everywhere: packets stored, queued and left to take, packets held, state packets queued. */
-static void busy(udx_end *e) {
+/* A stream that has something everywhere: packets stored and queued, packets held, state packets queued; driven, all of the queue is left
+ * to take. */
+static void busy(udx_end *e, int driven) {
     static uint8_t bytes[3000];
     udx_end_open(&ends[0], 1, 2, 10, 0);
     udx_end_open(&ends[1], 2, 1, 10, 0);
@@ -167,10 +172,14 @@ static void busy(udx_end *e) {
     EXPECT(udx_end_deliver(&ends[1], batch + 1400, 1400, 2).outcome == UDX_OK);
     EXPECT(udx_end_deliver(&ends[1], batch, 1400, 3).outcome == UDX_OK);
     EXPECT(udx_end_read(&ends[1], bytes, 1000).count == 1000);
+    if (driven) {
+        EXPECT(udx_end_drive(&ends[1], 3).outcome == UDX_OK);
+        EXPECT(ends[1].stream.queue.left == 3);
+    }
     memcpy(e, &ends[1], sizeof *e);
 }
 
-/* garbage: an end whose arrays are each a block of its own, so that a tool that watches memory sees every step past one */
+/* garbage: an end whose arrays are each a block of its own that ends at a page which nothing may touch, so that a step past one ends the run */
 
 typedef struct lent_end {
     udx_stream stream;
@@ -180,12 +189,22 @@ typedef struct lent_end {
     size_t outgoing_length, incoming_length, headers_length;
 } lent_end;
 
+enum { PAGE = 4096 };
+
+static size_t before_guard(size_t bytes) { return (bytes + PAGE - 1) / PAGE * PAGE; }
+
 static void *copy(const void *from, size_t bytes) {
-    void *to = malloc(bytes ? bytes : 1);
-    if (!to)
+    size_t used = before_guard(bytes);
+    char *base = (char *)mmap(NULL, used + PAGE, PROT_READ | PROT_WRITE, MAP_PRIVATE | MAP_ANONYMOUS, -1, 0);
+    if (base == MAP_FAILED || mprotect(base + used, PAGE, PROT_NONE))
         exit(2);
-    memcpy(to, from, bytes);
-    return to;
+    memcpy(base + used - bytes, from, bytes);
+    return base + used - bytes;
+}
+
+static void drop(void *block, size_t bytes) {
+    size_t used = before_guard(bytes);
+    munmap((char *)block + bytes - used, used + PAGE);
 }
 
 static lent_end lend(const udx_end *e, size_t outgoing, size_t incoming, size_t headers) {
@@ -212,12 +231,12 @@ static lent_end lend(const udx_end *e, size_t outgoing, size_t incoming, size_t 
 }
 
 static void give_back(lent_end *l) {
-    free(l->sent);
-    free(l->held);
-    free(l->queue);
-    free(l->outgoing);
-    free(l->incoming);
-    free(l->headers);
+    drop(l->sent, 64 * sizeof *l->sent);
+    drop(l->held, 32 * sizeof *l->held);
+    drop(l->queue, 128 * sizeof *l->queue);
+    drop(l->outgoing, l->outgoing_length);
+    drop(l->incoming, l->incoming_length);
+    drop(l->headers, l->headers_length);
 }
 
 static size_t least(size_t a, size_t b) { return a < b ? a : b; }
@@ -250,9 +269,12 @@ static udx_step call(int which, lent_end *l, uint8_t *buf, size_t length, uint64
     }
 }
 
-/* Every call on this end: each answers by 01's numbers, and a refused one has changed nothing. 1 where each of them answered refusal 1. */
+static size_t shown;        /* by the last look */
+static unsigned long taken; /* takes that put bytes */
+
+/* Every call on this end: each answers by 01's numbers, and a refused one has changed nothing. How many of them answered refusal 1. */
 static int every_call(const udx_end *e, size_t outgoing, size_t incoming, size_t headers, uint8_t *buf, size_t length, uint64_t clock) {
-    int all = 1;
+    int broken = 0;
     uint8_t *before = (uint8_t *)copy(buf, length);
     for (int which = 0; which < CALLS; which++) {
         lent_end l = lend(e, outgoing, incoming, headers);
@@ -264,22 +286,31 @@ static int every_call(const udx_end *e, size_t outgoing, size_t incoming, size_t
             EXPECT(same_stream(r.stream, e->stream) && same_totals(r.totals, e->totals) && r.count == 0 && untouched(&l, e));
             EXPECT(memcmp(lent, before, length) == 0);
         }
-        all = all && r.refusal == UDX_REFUSED_BROKEN_RECORDS;
-        free(lent);
+        if ((which == TAKE || which == READ) && r.count <= length)
+            EXPECT(memcmp(lent + r.count, before + r.count, length - r.count) == 0);
+        taken += which == TAKE && r.outcome == UDX_OK && r.count > 0;
+        broken += r.refusal == UDX_REFUSED_BROKEN_RECORDS;
+        drop(lent, length);
         give_back(&l);
     }
     lent_end own = lend(e, outgoing, incoming, headers), *l = &own;
     udx_part p = udx_look(l->stream, l->totals, l->sent, l->held, l->queue, STORES);
     EXPECT(p.header <= 1 && p.start <= (p.header ? headers : outgoing) && p.length <= (p.header ? headers : outgoing) - p.start);
-    all = all && p.length == 0;
+    shown = p.length;
     give_back(l);
-    free(before);
-    return all;
+    drop(before, length);
+    return broken;
 }
 
-static int refused_by_all(const udx_end *e) {
+static int broken_for(const udx_end *e) {
     return every_call(e, UDX_OUTGOING_STORE, UDX_INCOMING_STORE, UDX_HEADER_STORE, batch, sizeof batch, 10);
 }
+
+/* Refusal 1 from every call, and look shows nothing. */
+static int refused_by_all(const udx_end *e) { return broken_for(e) == CALLS && shown == 0; }
+
+/* Refusal 1 from none, and look shows what is left to take. */
+static int refused_by_none(const udx_end *e) { return broken_for(e) == 0 && (shown > 0) == (e->stream.queue.left > 0); }
 
 /* A field with another value breaks the records. */
 #define BREAKS(field, value) \
@@ -293,15 +324,15 @@ static int refused_by_all(const udx_end *e) {
     do { \
         memcpy(&f, &good, sizeof f); \
         f.field = (value); \
-        EXPECT(!refused_by_all(&f)); \
+        EXPECT(refused_by_none(&f)); \
     } while (0)
 
 static udx_end good, f;
 
-static void fields(void) {
+static void fields(int driven) {
     uint64_t end = (uint64_t)1 << 60;
-    busy(&good);
-    EXPECT(!refused_by_all(&good));
+    busy(&good, driven);
+    EXPECT(refused_by_none(&good));
     for (int v = 0; v < 256; v++) {
         if (v < 1 || v > 10)
             BREAKS(stream.ids.segments, (uint8_t)v);
@@ -353,20 +384,27 @@ static void fields(void) {
 
 static void lengths(void) {
     static const size_t outgoing[] = {0, 1, 1400, 44799, 44801, 44160}, incoming[] = {0, 1, 1380, 44159, 44161, 44800}, headers[] = {0, 1, 20, 1279, 1281, 1300};
-    busy(&good);
+    static uint8_t room[44801];
+    for (int driven = 0; driven < 2; driven++) {
+        busy(&good, driven);
+        for (int i = 0; i < 6; i++) {
+            EXPECT(every_call(&good, outgoing[i], UDX_INCOMING_STORE, UDX_HEADER_STORE, batch, sizeof batch, 10) == CALLS && shown == 0);
+            EXPECT(every_call(&good, UDX_OUTGOING_STORE, incoming[i], UDX_HEADER_STORE, batch, sizeof batch, 10) == CALLS && shown == 0);
+            EXPECT(every_call(&good, UDX_OUTGOING_STORE, UDX_INCOMING_STORE, headers[i], batch, sizeof batch, 10) == CALLS && shown == 0);
+        }
+        for (size_t length = 0; length < UDX_TAKE_ROOM; length += 7) {
+            udx_answer a = udx_end_take(&good, batch, length);
+            EXPECT(a.outcome == UDX_REFUSED && a.refusal == UDX_REFUSED_SHORT_BUFFER);
+        }
+        EXPECT(udx_end_take(&good, NULL, 5).refusal == UDX_REFUSED_SHORT_BUFFER);
+    }
+    EXPECT(udx_open(1, 2, 10, 0, room, 44800, room, 44160, room, 1280).refusal == 0);
     for (int i = 0; i < 6; i++) {
-        EXPECT(every_call(&good, outgoing[i], UDX_INCOMING_STORE, UDX_HEADER_STORE, batch, sizeof batch, 10));
-        EXPECT(every_call(&good, UDX_OUTGOING_STORE, incoming[i], UDX_HEADER_STORE, batch, sizeof batch, 10));
-        EXPECT(every_call(&good, UDX_OUTGOING_STORE, UDX_INCOMING_STORE, headers[i], batch, sizeof batch, 10));
-        EXPECT(udx_open(1, 2, 10, 0, good.outgoing, outgoing[i] < 44800 ? outgoing[i] : 44799, good.incoming, 44160, good.headers, 1280).refusal == 1);
-        EXPECT(udx_open(1, 2, 10, 0, good.outgoing, 44800, good.incoming, incoming[i] < 44160 ? incoming[i] : 44159, good.headers, 1280).refusal == 1);
-        EXPECT(udx_open(1, 2, 10, 0, good.outgoing, 44800, good.incoming, 44160, good.headers, headers[i] < 1280 ? headers[i] : 1279).refusal == 1);
+        EXPECT(udx_open(1, 2, 10, 0, room, outgoing[i], room, 44160, room, 1280).refusal == 1);
+        EXPECT(udx_open(1, 2, 10, 0, room, 44800, room, incoming[i], room, 1280).refusal == 1);
+        EXPECT(udx_open(1, 2, 10, 0, room, 44800, room, 44160, room, headers[i]).refusal == 1);
     }
-    for (size_t length = 0; length < UDX_TAKE_ROOM; length += 7) {
-        udx_answer a = udx_end_take(&good, batch, length);
-        EXPECT(a.outcome == UDX_REFUSED && a.refusal == UDX_REFUSED_SHORT_BUFFER);
-    }
-    EXPECT(udx_end_take(&good, NULL, 5).refusal == UDX_REFUSED_SHORT_BUFFER);
+    busy(&good, 0);
     EXPECT(udx_end_write(&good, NULL, 5).outcome == UDX_OK);
     EXPECT(udx_end_deliver(&good, NULL, 5, 10).refusal == UDX_REFUSED_BAD_HEADER);
     EXPECT(udx_end_read(&good, NULL, 5).outcome == UDX_WAIT);
@@ -380,7 +418,7 @@ static void numbers(void) {
     EXPECT(udx_end_open(&f, 1, 2, 10, end).refusal == UDX_REFUSED_BAD_CLOCK);
     EXPECT(udx_end_open(&f, 1, 2, 10, UINT64_MAX).refusal == UDX_REFUSED_BAD_CLOCK);
     EXPECT(udx_end_open(&f, 1, 2, 10, end - 1).refusal == 0);
-    busy(&good);
+    busy(&good, 0);
     EXPECT(udx_end_drive(&good, 2).refusal == UDX_REFUSED_BAD_CLOCK);
     EXPECT(udx_end_drive(&good, end).refusal == UDX_REFUSED_BAD_CLOCK);
     EXPECT(udx_end_deliver(&good, batch, 1400, 2).refusal == UDX_REFUSED_BAD_CLOCK);
@@ -455,7 +493,7 @@ static void ended(void) {
     EXPECT(udx_end_write(&ends[0], buf, 10).refusal == UDX_REFUSED_TIMED_OUT);
 }
 
-/* Random garbage: a few fields, words and bytes of a good end, with random lengths and clocks. */
+/* Random garbage: a few fields, words and bytes of a good end, driven or not, with random lengths and clocks. */
 
 static uint64_t seed = 0x9E3779B97F4A7C15u;
 
@@ -480,9 +518,11 @@ static uint64_t some(void) {
 
 static void garbage(int rounds) {
     static uint8_t buf[15000];
+    taken = 0;
     for (int round = 0; round < rounds; round++) {
-        if (round % 64 == 0)
-            busy(&good);
+        int driven = round / 32 % 2;
+        if (round % 32 == 0)
+            busy(&good, driven);
         memcpy(&f, &good, sizeof f);
         for (uint64_t n = any() % 3; n > 0; n--) {
             uint64_t v = some();
@@ -508,6 +548,8 @@ static void garbage(int rounds) {
             }
         }
         size_t length = (size_t)(any() % 4 ? any() % 64 : any() % sizeof buf);
+        if (driven && any() % 2)
+            length = UDX_TAKE_ROOM + any() % (sizeof buf - UDX_TAKE_ROOM);
         for (size_t i = 0; i < 32; i++)
             buf[i] = (uint8_t)any();
         if (any() % 4) {
@@ -522,6 +564,8 @@ static void garbage(int rounds) {
         }
         every_call(&f, UDX_OUTGOING_STORE, UDX_INCOMING_STORE, UDX_HEADER_STORE, buf, length, any() % 8 ? 3 + any() % 3 : some() << any() % 40);
     }
+    /* so that what is said of takes was said of some that put bytes */
+    EXPECT(taken >= (unsigned long)rounds / 16);
 }
 
 int main(int argc, char **argv) {
@@ -529,7 +573,8 @@ int main(int argc, char **argv) {
     arrives();
     headers();
     example();
-    fields();
+    fields(0);
+    fields(1);
     lengths();
     numbers();
     ended();

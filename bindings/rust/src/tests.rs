@@ -210,6 +210,14 @@ fn busy() -> Stream {
     b
 }
 
+// The same, driven: all of the queue is left to take, and look shows the first of it.
+fn driven() -> Stream {
+    let mut b = busy();
+    assert_eq!(b.drive(at(3)), Ok(Driven::Ready));
+    assert_eq!(b.look().map(<[u8]>::len), Some(120));
+    b
+}
+
 fn refusals(mut s: Stream) -> Vec<u8> {
     let (stream, totals) = (s.stream, s.totals);
     let words = (s.sent.clone(), s.held.clone(), s.queue.clone());
@@ -278,11 +286,13 @@ fn a_field_that_breaks_a_rule_is_refusal_1() {
         ("incoming", Box::new(|s| s.incoming = vec![0; 44_161].into())),
         ("headers", Box::new(|s| s.headers = vec![].into())),
     ];
-    assert!(!refusals(busy()).contains(&1));
-    for (name, spoil) in breaks {
-        let mut s = busy();
-        spoil(&mut s);
-        assert_eq!(refusals(s), [1; 6], "{name}");
+    for base in [busy, driven] {
+        assert!(!refusals(base()).contains(&1));
+        for (name, spoil) in &breaks {
+            let mut s = base();
+            spoil(&mut s);
+            assert_eq!(refusals(s), [1; 6], "{name}");
+        }
     }
 }
 
@@ -295,9 +305,12 @@ fn a_byte_that_stands_for_nothing_is_refusal_1() {
             (1, |s, v| s.stream.ending.ended = v),
         ];
         for (most, set) in spoil {
-            let mut s = busy();
-            set(&mut s, v);
-            assert_eq!(refusals(s) == [1; 6], v > most, "{v}");
+            for base in [busy, driven] {
+                let mut s = base();
+                set(&mut s, v);
+                let ones = refusals(s).iter().filter(|n| **n == 1).count();
+                assert_eq!(ones, if v > most { 6 } else { 0 }, "{v}");
+            }
         }
     }
 }
@@ -342,9 +355,27 @@ fn the_archive_writes_no_more_than_a_step() {
 
 #[test]
 fn refusals_have_01s_numbers() {
-    for number in 1..=17 {
-        let why = Refusal::from_number(number).unwrap();
-        assert_eq!(why.number(), number);
+    let list = [
+        Refusal::BrokenRecords,
+        Refusal::ShortBuffer,
+        Refusal::SegmentCeiling,
+        Refusal::BadClock,
+        Refusal::AfterDone,
+        Refusal::BatchesLeft,
+        Refusal::BadHeader,
+        Refusal::OtherStream,
+        Refusal::LongPayload,
+        Refusal::AckPastSeq,
+        Refusal::SeqEnd,
+        Refusal::PastIncoming,
+        Refusal::StateQueueFull,
+        Refusal::ConnectionReset,
+        Refusal::UnexpectedEof,
+        Refusal::TimedOut,
+        Refusal::SeqExhausted,
+    ];
+    for (number, why) in (1..).zip(list) {
+        assert_eq!((why.number(), Refusal::from_number(number)), (number, Some(why)));
         assert!(!why.to_string().is_empty());
     }
     assert_eq!([Refusal::from_number(0), Refusal::from_number(18)], [None, None]);

@@ -3,7 +3,7 @@
 use crate::engine::ORIGINAL;
 use crate::generate;
 use crate::named;
-use crate::record::Recorded;
+use crate::record::{Recorded, walks_far};
 use crate::script::{self, Kind};
 use crate::table::Table;
 use std::io::{Read, Write};
@@ -17,6 +17,8 @@ use std::time::{Duration, Instant};
 const PIPE: usize = 60_000;
 /// Most programs started to shorten one script.
 const MAX_TRIES: usize = 4_000;
+/// Fewest random scripts that say anything.
+const FEW: u64 = 200;
 
 /// The lines of a program under test; an end other than status 0 is a line of its own, which no reference has.
 pub fn port(program: &Path, bytes: &[u8]) -> Result<Vec<u8>, String> {
@@ -126,6 +128,7 @@ pub fn compare(plan: &Plan) -> Result<bool, String> {
     );
     print!("{}", table.into_inner().unwrap());
     match agreed {
+        None if count < FEW.min(plan.count) => Err(format!("only {count} random scripts were run in that time")),
         None => Ok(true),
         Some((seed, bytes)) => {
             println!("{}: the script of seed {seed} differs", kind.name());
@@ -133,6 +136,22 @@ pub fn compare(plan: &Plan) -> Result<bool, String> {
             Ok(false)
         }
     }
+}
+
+/// True where the original gives every recorded line: a file that was recorded from anything else is noticed.
+pub fn recorded(list: &[Recorded]) -> Result<bool, String> {
+    let list: Vec<_> = list.iter().filter(|one| !walks_far(one)).collect();
+    if list.is_empty() {
+        return Err("no recorded script".into());
+    }
+    for (index, (kind, bytes, lines)) in list.iter().enumerate() {
+        if script::run(*kind, bytes, ORIGINAL) != *lines {
+            println!("{}: recorded script {index} is not what the original answers", kind.name());
+            return Ok(false);
+        }
+    }
+    println!("{} recorded scripts are what the original answers", list.len());
+    Ok(true)
 }
 
 /// True where the program prints every recorded line.
@@ -145,6 +164,9 @@ pub fn replay(list: &[Recorded], kind: Kind, program: &Path) -> Result<bool, Str
             return Ok(false);
         }
         count += 1;
+    }
+    if count == 0 {
+        return Err(format!("no recorded {} script", kind.name()));
     }
     println!("{}: {count} recorded scripts agree", kind.name());
     Ok(true)

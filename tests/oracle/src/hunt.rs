@@ -2,7 +2,7 @@
 
 use crate::engine::{Engine, ORIGINAL};
 use crate::generate;
-use crate::record::Recorded;
+use crate::record::{Recorded, walks_far};
 use crate::script::{self, Kind};
 use crate::{mutants, mutations, named};
 use std::panic::{AssertUnwindSafe, catch_unwind};
@@ -13,23 +13,20 @@ fn differs((kind, bytes, lines): &Recorded, engine: Engine) -> bool {
 }
 
 /// Prints for each mutation how many random scripts it took, from the seed on, and how many named and recorded ones notice it.
-/// True where each one was noticed by some random script.
+/// True where each one was noticed by a random drill, by a named script and, where there are any, by a recorded one.
 pub fn hunt(seed: u64, count: u64, recorded: &[Recorded]) -> bool {
     std::panic::set_hook(Box::new(|_| {}));
     let batch = |kind| -> Vec<Recorded> {
         (seed..seed + count).map(|seed| generate::script(kind, seed)).map(|one| (kind, one.bytes, one.lines)).collect()
     };
-    let far = |(kind, bytes, _): &Recorded| {
-        script::commands(*kind, bytes).windows(2).any(|pair| script::walks_far(&bytes[pair[0]..pair[1]]))
-    };
-    let recorded: Vec<Recorded> = recorded.iter().filter(|one| !far(one)).cloned().collect();
+    let recorded: Vec<Recorded> = recorded.iter().filter(|one| !walks_far(one)).cloned().collect();
     let random = [batch(Kind::Session), batch(Kind::Drill)];
     let named: Vec<Recorded> = named::all()
         .into_iter()
         .filter(|one| !one.slow)
         .map(|one| (one.kind, script::run(one.kind, &one.bytes, ORIGINAL), one.bytes))
         .map(|(kind, lines, bytes)| (kind, bytes, lines))
-        .filter(|one| !far(one))
+        .filter(|one| !walks_far(one))
         .collect();
     println!(
         "random: how many scripts it took, of {count} of each kind; named, recorded: how many differ, of {} and {}",
@@ -43,15 +40,9 @@ pub fn hunt(seed: u64, count: u64, recorded: &[Recorded]) -> bool {
         let found = random.each_ref().map(first);
         let differing = |list: &[Recorded]| list.iter().filter(|one| differs(one, *engine)).count();
         let word = |found: Option<usize>| found.map_or("-".into(), |index| (index + 1).to_string());
-        println!(
-            "{:48}{:>9}{:>9}{:>9}{:>10}",
-            mutation.name,
-            word(found[0]),
-            word(found[1]),
-            differing(&named),
-            differing(&recorded)
-        );
-        all &= found.iter().any(Option::is_some);
+        let (by_name, by_record) = (differing(&named), differing(&recorded));
+        println!("{:48}{:>9}{:>9}{by_name:>9}{by_record:>10}", mutation.name, word(found[0]), word(found[1]));
+        all &= found[1].is_some() && by_name > 0 && (by_record > 0 || recorded.is_empty());
     }
     println!("{} mutations, {}", mutations::ALL.len(), if all { "each noticed" } else { "NOT each noticed" });
     all

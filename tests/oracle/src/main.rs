@@ -18,6 +18,7 @@ usage: oracle run KIND                               runs the script on standard
        oracle table KIND SEED COUNT                  counts what each command answers in random scripts
        oracle named                                  prints the scripts written by hand and their lines
        oracle record FOLDER                          writes FOLDER/scripts.bin: scripts and their lines, for replay
+       oracle recorded FILE                          holds the recorded scripts to the original, but for one of a minute
        oracle replay FILE KIND --port PROGRAM        holds PROGRAM to the recorded scripts of that kind
        oracle mutants SEED COUNT [FILE]              tells how soon wrong versions are noticed, and whether by the
                                                      recorded scripts of FILE (built with the feature mutants)
@@ -99,6 +100,7 @@ fn command(words: &[&str]) -> Result<bool, String> {
             save(&Path::new(folder).join("scripts.bin"), &record::file())?;
             Ok(true)
         }
+        ["recorded", file] => compare::recorded(&recorded(file)?),
         ["replay", file, kind, "--port", program] => compare::replay(&recorded(file)?, kind_of(kind)?, Path::new(program)),
         ["mutants", seed, count] => mutants(number(seed)?, number(count)?, &[]),
         ["mutants", seed, count, file] => mutants(number(seed)?, number(count)?, &recorded(file)?),

@@ -1,4 +1,5 @@
-//! Scripts written by hand: 01's example, its edges, every refusal at its boundary. They are compared first and recorded always.
+//! Scripts written by hand: 01's example, its edges, every refusal at its boundary. They are compared first, but for the slow one, and
+//! recorded where they fit.
 
 mod drill;
 mod session;

@@ -96,6 +96,11 @@ fn choose(kind: Kind, budget: usize) -> (Vec<Record>, usize, usize) {
 /// A script and its lines.
 pub type Recorded = (Kind, Vec<u8>, Vec<u8>);
 
+/// The original would walk over billions of numbers in it.
+pub fn walks_far((kind, bytes, _): &Recorded) -> bool {
+    script::commands(*kind, bytes).windows(2).any(|pair| script::walks_far(&bytes[pair[0]..pair[1]]))
+}
+
 /// The scripts of a file.
 pub fn parse(file: &[u8]) -> Option<Vec<Recorded>> {
     let mut list = Vec::new();

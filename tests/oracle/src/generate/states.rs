@@ -29,7 +29,7 @@ pub(super) fn coarse(view: &View) -> u64 {
     parts.iter().fold(0, |all, (part, size)| all * size + part)
 }
 
-/// States that scripts come through seldom, and have to.
+/// States that scripts come through seldom: the table counts them.
 pub(super) fn reached(view: &View) -> Vec<&'static str> {
     let n = &view.numbers;
     let waiting = view.stored.iter().filter(|packet| packet.waiting).count();
