@@ -565,7 +565,7 @@ static void garbage(int rounds) {
         every_call(&f, UDX_OUTGOING_STORE, UDX_INCOMING_STORE, UDX_HEADER_STORE, buf, length, any() % 8 ? 3 + any() % 3 : some() << any() % 40);
     }
     /* so that what is said of takes was said of some that put bytes */
-    EXPECT(taken >= (unsigned long)rounds / 16);
+    EXPECT(taken >= (unsigned long)rounds / 32);
 }
 
 int main(int argc, char **argv) {
