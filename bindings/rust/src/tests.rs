@@ -355,6 +355,7 @@ fn the_archive_writes_no_more_than_a_step() {
 
 #[test]
 fn refusals_have_01s_numbers() {
+    // 01's list, written out once more: two names swapped in the crate's own would show nowhere else.
     let list = [
         Refusal::BrokenRecords,
         Refusal::ShortBuffer,
