@@ -72,8 +72,8 @@ stored-said e i n p k =
     (and-true (le-leb _ _ (k .least))
     (and-true (le-leb _ _ (k .most)) (and-true (le-leb _ _ (k .transmits)) (time-said (e .clocks .last) (p .marks .sent) (k .sent)))))))
 
-held-says : (cursor i n : ℕ) (length offset : ℕ) → Rules.heldRule cursor i n length offset ≡ true
-    → (n % ceiling ≡ i) × (cursor ≤ n) × (n < cursor + ceiling) × (n < 4_294_967_295) × (length ≤ 1_380) × (offset ≤ length)
+held-says : (cursor i n : ℕ) (size offset : ℕ) → Rules.heldRule cursor i n size offset ≡ true
+    → (n % ceiling ≡ i) × (cursor ≤ n) × (n < cursor + ceiling) × (n < 4_294_967_295) × (size ≤ 1_380) × (offset ≤ size)
 held-says cursor i n l o h =
     let (a, h₁) = both h in
     let (b, h₂) = both h₁ in

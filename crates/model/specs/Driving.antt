@@ -242,8 +242,8 @@ unfoldable pub takeRefusal : ℕ → End → Option Refusal
 takeRefusal room e = first (takeTests room e)
 
 -- "with segment size unless it has one entry"
-abbrev pub segmentOf : (entries length : ℕ) → Option ℕ
-segmentOf entries length = cond (eqb entries 1) none (some length)
+abbrev pub segmentOf : (entries size : ℕ) → Option ℕ
+segmentOf entries size = cond (eqb entries 1) none (some size)
 
 abbrev pub takenFrom : ℕ → End → End
 takenFrom entries e = withQueue (record { entries = e .queue .entries; left = e .queue .left - entries }) e

@@ -69,11 +69,11 @@ receiverNumbers r = leb (r .readCursor) (r .ack) && leb (r .ack) (r .readCursor 
 
 -- "stored numbers lie from remote acked to below seq", each in its slot; "lengths are 21 to 1,400 stored"; "transmits are at
 -- most 7"; "neither a time sent .. is past the last clock"
-abbrev pub storedRule : (remoteAcked seq clock slot number length transmits : ℕ) → Option ℕ → Bool
-storedRule remoteAcked seq clock slot number length transmits sent =
+abbrev pub storedRule : (remoteAcked seq clock slot number size transmits : ℕ) → Option ℕ → Bool
+storedRule remoteAcked seq clock slot number size transmits sent =
     eqb (number % ceiling) slot
     && (leb remoteAcked number
-    && (ltb number seq && (leb 21 length && (leb length 1_400 && (leb transmits 7 && on sent true (λ t. leb t clock))))))
+    && (ltb number seq && (leb 21 size && (leb size 1_400 && (leb transmits 7 && on sent true (λ t. leb t clock))))))
 
 abbrev pub storedTest : End → ℕ → ℕ → Packet → Bool
 storedTest e slot n p =
@@ -81,10 +81,10 @@ storedTest e slot n p =
 
 -- "held ones from read cursor to below read cursor + 32 and below 4,294,967,295", each in its slot; "at most 1,380 held";
 -- "offsets fit the lengths"
-abbrev pub heldRule : (readCursor slot number length offset : ℕ) → Bool
-heldRule readCursor slot number length offset =
+abbrev pub heldRule : (readCursor slot number size offset : ℕ) → Bool
+heldRule readCursor slot number size offset =
     eqb (number % ceiling) slot
-    && (leb readCursor number && (ltb number (readCursor + ceiling) && (ltb number 4_294_967_295 && (leb length 1_380 && leb offset length))))
+    && (leb readCursor number && (ltb number (readCursor + ceiling) && (ltb number 4_294_967_295 && (leb size 1_380 && leb offset size))))
 
 abbrev pub heldTest : Receiver → ℕ → ℕ → Held → Bool
 heldTest r slot n h = heldRule (r .readCursor) slot n (length (h .payload)) (h .offset)

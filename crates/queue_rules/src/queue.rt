@@ -26,10 +26,10 @@ struct Passed {
 }
 
 // "lengths are 21 to 1,400 .. queued"
-fn sized(length: u32) -> bool
-    ensures { λ r. ⌜ r ≡ sized length ⌝ }
+fn sized(size: u32) -> bool
+    ensures { λ r. ⌜ r ≡ sized size ⌝ }
 {
-    both(21 <= length, length <= UDX_MTU)
+    both(21 <= size, size <= UDX_MTU)
 }
 
 // An entry that is no state packet; near says that its number is from remote acked to below seq.

@@ -65,15 +65,15 @@ slot-test f (some y ∷ s) h zero x e = rw (← (some-inj refl e)) (and-left (f 
 slot-test f (some y ∷ s) h (suc i) x e = slot-test (λ j. f (suc j)) s (and-right (f 0 (y .number) (y .value)) (everySlot (λ j. f (suc j)) s) h) i x e
 
 -- the rule of a stored packet
-rule-within : (remoteAcked seq clock slot number length transmits : ℕ) (sent : Option ℕ) → storedRule remoteAcked seq clock slot number length transmits sent ≡ true
-    → (length ≤ 1_400) × (transmits ≤ 7)
-rule-within remoteAcked seq clock slot number length transmits sent h =
+rule-within : (remoteAcked seq clock slot number size transmits : ℕ) (sent : Option ℕ) → storedRule remoteAcked seq clock slot number size transmits sent ≡ true
+    → (size ≤ 1_400) × (transmits ≤ 7)
+rule-within remoteAcked seq clock slot number size transmits sent h =
     let h₁ = and-right (eqb (number % ceiling) slot) _ h in
     let h₂ = and-right (leb remoteAcked number) _ h₁ in
     let h₃ = and-right (ltb number seq) _ h₂ in
-    let h₄ = and-right (leb 21 length) _ h₃ in
-    let h₅ = and-right (leb length 1_400) _ h₄ in
-    (leb-true length 1_400 (and-left (leb length 1_400) _ h₄), leb-true transmits 7 (and-left (leb transmits 7) _ h₅))
+    let h₄ = and-right (leb 21 size) _ h₃ in
+    let h₅ = and-right (leb size 1_400) _ h₄ in
+    (leb-true size 1_400 (and-left (leb size 1_400) _ h₄), leb-true transmits 7 (and-left (leb transmits 7) _ h₅))
 
 module _ (st : Stream) (t : Totals) (l : Lent) (kept : rules (seen st t l) ≡ true) where
   stored : Stored (st .sender) (l .sent) 7

@@ -121,8 +121,8 @@ pub record Sendable (q : Queue) (s : Sender) (segments clock : ℕ) (sent queue 
   pub room : 14_000 ≤ length buf
 
 -- 01, call 5: "with segment size unless it has one entry"; 0 where a batch has none
-abbrev pub segmentSize : (entries length : ℕ) → ℕ
-segmentSize entries length = cond (eqb entries 1) 0 length
+abbrev pub segmentSize : (entries size : ℕ) → ℕ
+segmentSize entries size = cond (eqb entries 1) 0 size
 
 -- the next batch of an end e, which is e′ then: what is put, its count, its segment size and the end are the model's
 pub record HandedOut (e e′ : model.End) (buf : Bytes) (count segment : ℕ) (buf′ : Bytes) : Type 0 where

@@ -84,10 +84,10 @@ pub struct Handed {
 }
 
 // "with segment size unless it has one entry"
-fn segment(entries: u32, length: u32) -> usize
-    ensures { λ r. ⌜ r ≡ segmentSize entries length ⌝ }
+fn segment(entries: u32, size: u32) -> usize
+    ensures { λ r. ⌜ r ≡ segmentSize entries size ⌝ }
 {
-    if entries == 1 { 0 } else { length as usize }
+    if entries == 1 { 0 } else { size as usize }
 }
 
 // The next batch (poll_transmit): its bytes with their marks, its segment size, and the queue without it.
@@ -106,10 +106,10 @@ pub fn next_batch(
     ensures { λ r. ⌜ HandsOut q s segments (drive .0) (now (sent .entry)) (now (queue .entry)) (now (outgoing .entry)) (now (headers .entry)) (now (buf .entry)) r (now (sent .exit)) (now (buf .exit)) ⌝ }
 {
     let k = batch(q, segments, queue);
-    let length = head_length(q, queue);
+    let head = head_length(q, queue);
     let p = to_transmit(q, s, k, drive, sent, queue, outgoing, headers, buf);
     let rest = taken_queue(q, k, p.place);
-    let size = segment(k, length);
+    let size = segment(k, head);
     Handed {
         queue: rest,
         count: p.at,
