@@ -10,7 +10,7 @@ use Rattle.model.specs.Lists.{on}
 use Rattle.model.specs.Slots.{ceiling, get}
 use Rattle.model.specs.Stream.{End}
 use Rattle.model.specs.Receiving.{handleRemoteAck, ackNumber, ackNumbers}
-use Rattle.model.proofs.AliveBlocks.{outside}
+use Rattle.model.proofs.SackBlocks.{outside}
 
 run-split : (clock j k n : ℕ) (e : End) → ackNumbers clock (j + k) n e ≡ ackNumbers clock k (n + j) (ackNumbers clock j n e)
 unfolding ackNumbers

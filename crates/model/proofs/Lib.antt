@@ -1,5 +1,7 @@
 pub mod Lists
 pub mod Slots
+pub mod Cuts
+pub mod SackBlocks
 pub mod SlotSums
 pub mod SlotNumbers
 pub mod Gate
@@ -29,6 +31,5 @@ pub mod TwoEnds
 pub mod AliveWrite
 pub mod AliveCarried
 pub mod AliveDue
-pub mod AliveBlocks
 pub mod Examples
 pub mod RulesKept

@@ -3,14 +3,13 @@
 use Prim.Native.Nat.{ℕ, zero, suc, _≤_, _<_, min, zero-le}
 use native.Mathlib.Nat.{le-refl}
 use native.Mathlib.Omega.{arith}
-use mathlib.Core.Path.{_≡_, refl, sym, ap, ap₂, _∙_, subst}
+use mathlib.Core.Path.{_≡_, refl, sym, ap, _∙_, subst}
 use mathlib.Core.List.{List, [], _∷_, _++_, append-assoc, append-nil}
 use mathlib.Core.Option.{Option, none, some}
 use mathlib.Core.Bool.{cond}
 use lib.Dec.{ltb, eqb}
 use borrow.Author.Tests.{eqb-true}
 use lib.ListN.{length, length-append}
-use lib.Seq.{take-at, drop-at}
 use Rattle.model.specs.Lists.{Bytes, joined, cut, on}
 use Rattle.model.specs.Slots.{get}
 use Rattle.model.specs.Stream.{Packet, Entry, state, packet, End, withSender}
@@ -19,6 +18,7 @@ use Rattle.model.specs.Driving.{remarked, entryLength, headLength, sameL
 use Rattle.model.specs.Calls.{takeCall}
 use Rattle.model.specs.TwoEnds.{History, noted}
 use Rattle.model.proofs.Lists.{All, all-append, all-map, by-test}
+use Rattle.model.proofs.Cuts.{cut-joined, count-joined, whole-joined}
 use Rattle.model.proofs.Gate.{by-gate}
 use Rattle.model.proofs.Line.{Datagram, Both}
 use Rattle.model.proofs.LineSender.{one-way-remarked, piece-datagram, piece-length, datagram-filled}
@@ -27,29 +27,6 @@ use Rattle.model.proofs.LineSender.{one-way-remarked, piece-datagram, p
 abbrev withTaken : List Bytes → History → History
 withTaken datagrams g =
     record { accepted = g .accepted; pieces = g .pieces; reads = g .reads; taken = g .taken ++ datagrams; brought = g .brought }
-
--- joining and cutting
-
-cut-one : (k l : ℕ) (d more : Bytes) → length d ≡ l → 0 < l → cut (suc k) l (d ++ more) ≡ d ∷ cut k l more
-cut-one k l [] more e p = absurd (omega arith)
-cut-one k l (x ∷ d) more e p = ap₂ {C = List Bytes} (λ (u : Bytes) (v : Bytes). u ∷ cut k l v) (take-at (x ∷ d) more l e) (drop-at (x ∷ d) more l e)
-
-pub cut-joined : (l : ℕ) → 0 < l → (ds : List Bytes) → All (λ d. length d ≡ l) ds → (k : ℕ) → length ds ≤ k → cut k l (joined ds) ≡ ds
-cut-joined l p [] a zero b = refl
-cut-joined l p [] a (suc k) b = refl
-cut-joined l p (d ∷ ds) a zero b = absurd (omega arith)
-cut-joined l p (d ∷ ds) a (suc k) b = cut-one k l d (joined ds) (a .0) p ∙ ap (λ (z : List Bytes). d ∷ z) (cut-joined l p ds (a .1) k (omega arith))
-
--- no more datagrams than bytes
-pub count-joined : (l : ℕ) → 0 < l → (ds : List Bytes) → All (λ d. length d ≡ l) ds → length ds ≤ length (joined ds)
-count-joined l p [] a = zero-le
-count-joined l p (d ∷ ds) a = let u = a .0 in let v = count-joined l p ds (a .1) in rw length-append (omega arith)
-
-pub whole-joined : (ds : List Bytes) → length ds ≤ 1 → All (λ d. 0 < length d) ds → whole (joined ds) ≡ ds
-whole-joined [] b a = refl
-whole-joined ([] ∷ []) b a = let u = a .0 in absurd (omega arith)
-whole-joined ((x ∷ d) ∷ []) b a = ap (λ (z : Bytes). (x ∷ z) ∷ []) (append-nil d)
-whole-joined (d ∷ (c ∷ ds)) b a = absurd (omega arith)
 
 -- the packet of an entry is there or has left
 abbrev entryTaken : ℕ → End → Option Packet → Taken

@@ -1,14 +1,13 @@
 -- The test of the rules and the rules as facts say the same (`rules-say`, `rules-said`), part by part: each line of the test is an
 -- order or an equation of numbers. And bounds that follow: a full store's bytes, and how long a queue at rest can be. Assumes nothing.
-use Prim.Native.Nat.{ℕ, zero, suc, _+_, _-_, _*_, _%_, _^_, _≤_, _<_, zero-le}
+use Prim.Native.Nat.{ℕ, zero, suc, _+_, _*_, _%_, _≤_, _<_, zero-le}
 use native.Mathlib.Nat.{add-suc}
 use native.Mathlib.Decide.{ℕ-discrete}
 use native.Mathlib.Omega.{arith}
-use mathlib.Core.Path.{_≡_, refl, sym, ap, _∙_, subst}
-use mathlib.Core.Logic.{_≢_}
+use mathlib.Core.Path.{_≡_, refl, ap, _∙_, subst}
 use mathlib.Core.List.{List, [], _∷_}
 use mathlib.Core.Option.{Option, none, some}
-use mathlib.Core.Bool.{Bool, true, false, cond, _&&_, not, true≢false}
+use mathlib.Core.Bool.{Bool, true, false, cond, _&&_, not}
 use lib.Dec.{ltb, leb, eqb}
 use borrow.Author.Tests.{le-leb, lt-ltb, eq-eqb, ne-eqb, leb-true, ltb-true, eqb-true, eqb-false, not-true}
 use lib.ListN.{length, getD}

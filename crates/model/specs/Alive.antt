@@ -2,20 +2,18 @@
 -- these. Statements only: the proofs are proofs/Alive*.antt. Assumes nothing.
 use Prim.Native.Nat.{ℕ, _≤_, _<_, min}
 use mathlib.Core.Path.{_≡_}
-use mathlib.Core.List.{List, [], _∷_, List·Memᴰ}
+use mathlib.Core.List.{List, List·Memᴰ}
 use mathlib.Core.Logic.{_⊎_}
 use mathlib.Core.Option.{none, some}
-use mathlib.Core.Bool.{Bool, true, false, cond, _&&_, _||_}
-use lib.Dec.{ltb, leb}
+use mathlib.Core.Bool.{true, false}
 use lib.ListN.{length}
 use Rattle.error.specs.declared.UdxError.the-variants.{TimedOut}
 use Rattle.error.specs.declared.Outcome.the-variants.{Ready}
-use Rattle.packet.specs.Blocks.{Span}
 use Rattle.model.specs.Lists.{Bytes}
-use Rattle.model.specs.Slots.{Slots, ceiling, get}
-use Rattle.model.specs.Stream.{Packet, packet, End, fresh}
+use Rattle.model.specs.Slots.{Slots, get}
+use Rattle.model.specs.Stream.{Packet, packet, fresh}
 use Rattle.model.specs.Sending.{openRefusal, write}
-use Rattle.model.specs.Receiving.{ackBlocks, deliver, read}
+use Rattle.model.specs.Receiving.{deliver, read}
 use Rattle.model.specs.Driving.{driveClock, settle, due, drive, take}
 use Rattle.model.specs.Calls.{Call, after}
 use Rattle.model.specs.TwoEnds.{Id}
@@ -71,15 +69,3 @@ DueDrive =
     → get (s .sender .outgoing) n ≡ some p
     → ((m : ℕ) → m < n → get (s .sender .outgoing) m ≡ none)
     → ((d .end .ending .error ≡ TimedOut) × Exhausted (s .sender .outgoing)) ⊎ List·Memᴰ (packet n (length (p .bytes))) (d .end .queue .entries)
-
--- SACK blocks take just their numbers out of the store, "end excluded".
-abbrev pub covers : List Span → ℕ → Bool
-covers [] n = false
-covers (b ∷ bs) n = (leb (b .start) n && ltb n (b .end)) || covers bs n
-
-abbrev pub BlocksExact : Type 0
-BlocksExact =
-    (clock : ℕ) (blocks : List Span) (e : End)
-    → length (e .sender .outgoing) ≡ ceiling
-    → (n : ℕ)
-    → get ((ackBlocks clock blocks e) .sender .outgoing) n ≡ cond (covers blocks n) none (get (e .sender .outgoing) n)

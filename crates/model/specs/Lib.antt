@@ -7,6 +7,7 @@ pub mod SlotNumbers
 pub mod Sending
 pub mod Receiving
 pub mod Driving
+pub mod SackBlocks
 pub mod Order
 pub mod Calls
 pub mod TwoEnds

@@ -15,7 +15,7 @@ use Rattle.model.specs.Slots.{Slots, ceiling, get}
 use Rattle.model.specs.Stream as model
 use Rattle.model.specs.Driving as drive
 use Rattle.model.proofs.Slots.{no-some, some-inj}
-use Rattle.model.proofs.AliveBlocks.{one-length}
+use Rattle.model.proofs.SackBlocks.{one-length}
 use Rattle.words.specs.declared.Sent.{Sent}
 use Rattle.records.specs.declared.Sender.{Sender}
 use Rattle.records.specs.declared.Stream.{Stream}

@@ -19,7 +19,7 @@ use Rattle.model.specs.Driving.{marked, entryLength, headLength, sameLength, ba
 use Rattle.model.proofs.Lists.{All, all-map, by-test}
 use Rattle.model.proofs.Slots.{no-some, insert-same, insert-other, insert-none, insert-length, one-number}
 use Rattle.model.proofs.Gate.{and-left, and-right}
-use Rattle.model.proofs.LineTake.{cut-joined, count-joined, whole-joined}
+use Rattle.model.proofs.Cuts.{cut-joined, count-joined, whole-joined}
 use Rattle.records.specs.Seen.{seenQueue, seen}
 use Rattle.records.proofs.SeenOutgoing.{outgoing-length}
 use Rattle.transmitting.specs.Transmit.{sendEntry}

@@ -17,7 +17,7 @@ use Rattle.model.specs.Lists.{on}
 use Rattle.model.specs.Slots.{Slots, ceiling, get, remove}
 use Rattle.model.specs.Stream.{Packet, End}
 use Rattle.model.specs.Receiving.{handleRemoteAck, ackNumber, ackNumbers, ackBlocks}
-use Rattle.model.specs.Alive.{covers, BlocksExact}
+use Rattle.model.specs.SackBlocks.{covers, BlocksExact}
 use Rattle.model.proofs.Slots.{remove-length, remove-cases, remove-keep, remove-none}
 
 -- one number
