@@ -173,6 +173,7 @@ carried s r v w =
       reads-first = sym (ap (take (length reads)) split ∙ take-append-seam reads (unreadInOrder (r .end) ++ joined (drop ack pieces)));
       accepted = split;
       pieces = w .pieces .whole;
+      numbered = sym (w .pieces .numbered);
       kept = λ n l b.
           let (p, e) = w .outstanding .still-stored n l (let z = w .pieces .numbered in omega arith) in
           (p, e, in-piece n p e);

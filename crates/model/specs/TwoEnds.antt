@@ -154,6 +154,8 @@ pub record Carried (s r : Side) : Type 0 where
   pub accepted : s .past .accepted ≡ r .past .reads ++ (unreadInOrder (r .end) ++ joined (drop (r .end .receiver .ack) (s .past .pieces)))
   -- the packets are what was accepted
   pub pieces : joined (s .past .pieces) ≡ s .past .accepted
+  -- "The packets are the pieces that went, numbered from 0 in order over all writes": the next packet's number is how many went
+  pub numbered : s .end .sender .seq ≡ length (s .past .pieces)
   -- the sender still stores each of those packets
   pub kept : (n : ℕ) → r .end .receiver .ack ≤ n → n < length (s .past .pieces) → Kept s r n (getD (s .past .pieces) n [])
   -- "a packet stored or held is there under its number, with just that piece's bytes as payload": each one that the sender stores or
