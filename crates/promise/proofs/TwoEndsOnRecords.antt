@@ -78,6 +78,7 @@ module _ (i j segmentsA segmentsB clockA clockB : ℕ) (idI : Id i) (idJ : Id j)
             (subst (λ (z : Ends). model.Carried (seenSide (z .a)) (seenSide (z .b))) (last-append turns (readTurns vs) start ∙ reads-last vs w)
             (promised (turns ++ readTurns vs) (line-append turns (readTurns vs) start line (reads-line vs last w h))));
         pieces = c .pieces;
+        numbered = c .numbered;
         kept = λ n l u. stored-on (w .a) laidA n _ (c .kept n l u);
         stored = λ n p e. let (l, q) = c .stored n p e in (l, stored-on (w .a) laidA n _ (p, e, q));
         held = λ n h e. let (l, q) = c .held n h e in (l, held-on (w .b) laidB n _ h e q);

@@ -148,6 +148,8 @@ pub record Carried (s r : Side) : Type 0 where
   pub unread : (vs : List Event) (last : Event) → ReadsAlone vs last (r .records) → unreadInOrder (seenOf (r .records)) ≡ putByReads vs
   -- the packets are what was accepted
   pub pieces : joined (s .past .pieces) ≡ s .past .accepted
+  -- "numbered from 0 in order over all writes": the next packet's number is how many pieces went
+  pub numbered : s .records .stream .sender .seq ≡ length (s .past .pieces)
   -- the sender still stores each of those packets
   pub kept : (n : ℕ) → ackOf r ≤ n → n < length (s .past .pieces) → StoredBy s n (getD (s .past .pieces) n [])
   -- "a packet stored or held is there under its number, with just that piece's bytes as payload": each one that the sender stores or
