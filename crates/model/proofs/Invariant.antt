@@ -1,28 +1,29 @@
 -- The invariant of one end: what every call keeps, and that the rules of the records follow from it (`invariant-rules`).
--- It says more than 01's rules, which no call alone would keep: a read could break "read cursor ≤ ack" if number ack were held,
--- and a take could break "transmits are at most 7". So besides the rules: number ack is not held; a packet's transmits and its
--- queue entries together are at most 7, and at most 6 while it waits; with nothing left to take, a queued packet is queued once,
--- was never transmitted and does not wait; queued numbers then ascend; and seq is at most 4,294,967,295. Assumes nothing.
+-- It says more than 01's rules, which a read and a take alone would not keep: a read could break "read cursor ≤ ack" if number ack
+-- were held, and a take could break "transmits are at most 7". So besides the rules: number ack is not held; a packet's transmits
+-- and its queue entries together are at most 7, and at most 6 while it waits; with nothing left to take, a queued packet is queued
+-- once, was never transmitted and does not wait. The other calls keep the rules with these facts or without them, by the same
+-- steps: `more` says whether they are there. Without them the invariant is the rules, for stores of 32 slots (`rules-kept`,
+-- `kept-rules`). Assumes nothing.
 use Prim.Native.Nat.{ℕ, suc, _+_, _^_, _≤_, _<_}
-use native.Mathlib.Nat.{le-refl}
+use native.Mathlib.Decide.{ℕ-discrete}
 use native.Mathlib.Omega.{arith}
-use mathlib.Core.Path.{_≡_, refl}
+use mathlib.Core.Path.{_≡_, sym}
 use mathlib.Core.List.{List, [], _∷_}
-use mathlib.Core.Option.{Option, none, some}
-use mathlib.Core.Bool.{Bool, true, false, cond}
-use lib.Dec.{eqb, leb}
-use borrow.Author.Tests.{eq-eqb, ne-eqb, le-leb, lt-ltb}
+use mathlib.Core.Option.{none, some}
+use mathlib.Core.Bool.{Bool, true, false, cond, true≢false}
+use lib.Dec.{eqb}
 use lib.ListN.{length}
 use Rattle.rtt.specs.declared.estimate.Rtt.{Rtt}
 use Rattle.rtt.specs.Estimate.{InRange}
-use Rattle.model.specs.Lists.{on}
 use Rattle.model.specs.Slots.{Slots, ceiling, get}
 use Rattle.model.specs.Stream.{Packet, Held, Entry, state, packet, Receiver, End}
-use Rattle.model.specs.Rules.{sum, inflightOf, oneOf, payloadOf, everySlot, every, absent, distinct, states, numbers, storedTest, heldTest, entryTest, queueTest, rules}
+use Rattle.model.specs.Rules.{sum, inflightOf, oneOf, payloadOf, distinct, states, numbers, rules}
+use Rattle.model.specs.RulesKept.{Every, EntryKept, RestKept, ToTakeKept, KeepsRules}
 use Rattle.model.proofs.Lists.{All}
-use Rattle.model.proofs.SlotSums.{SlotsOk, every-slot}
-use Rattle.model.proofs.Gate.{and-true}
+use Rattle.model.proofs.SlotSums.{SlotsOk}
 use Rattle.model.proofs.Ranges.{InWindow, InSegments}
+use Rattle.model.proofs.RulesKept.{rules-say, rules-said}
 
 -- how often a number stands in the queue
 abbrev pub count : ℕ → List Entry → ℕ
@@ -31,16 +32,20 @@ count n (state b ∷ q) = count n q
 count n (packet m l ∷ q) = cond (eqb n m) (suc (count n q)) (count n q)
 
 -- packet n, stored
-pub record StoredFacts (remoteAcked seq clock : ℕ) (q : List Entry) (n : ℕ) (p : Packet) : Type 0 where
+pub record StoredFacts (remoteAcked seq clock n : ℕ) (p : Packet) : Type 0 where
   pub from : remoteAcked ≤ n
   pub below : n < seq
   pub least : 21 ≤ length (p .bytes)
   pub most : length (p .bytes) ≤ 1_400
+  pub transmits : p .marks .transmits ≤ 7
+  pub sent : (t : ℕ) → p .marks .sent ≡ some t → t ≤ clock
+
+-- packet n, stored: it has transmits to spare for its entries
+pub record Spare (q : List Entry) (n : ℕ) (p : Packet) : Type 0 where
   -- each entry will be one transmit more
-  pub transmits : p .marks .transmits + count n q ≤ 7
+  pub entries : p .marks .transmits + count n q ≤ 7
   -- a packet that waits will be queued once more
   pub waits : p .marks .waiting ≡ true → p .marks .transmits + count n q ≤ 6
-  pub sent : (t : ℕ) → p .marks .sent ≡ some t → t ≤ clock
 
 -- packet n, held
 pub record HeldFacts (readCursor : ℕ) (n : ℕ) (h : Held) : Type 0 where
@@ -54,21 +59,16 @@ pub record HeldFacts (readCursor : ℕ) (n : ℕ) (h : Held) : Type 0 where
 pub record QueuedOnce (q : List Entry) (n : ℕ) (p : Packet) : Type 0 where
   pub once : 0 < count n q → (count n q ≤ 1) × (p .marks .transmits ≡ 0) × (p .marks .waiting ≡ false)
 
--- an entry of the queue: what the rules say, and its number is below seq
-abbrev pub EntryFacts : ℕ → Slots Packet → Entry → Type 0
-EntryFacts seq outgoing (state b) = length b ≡ 20
-EntryFacts seq outgoing (packet n l) = (n < seq) × (21 ≤ l) × (l ≤ 1_400) × ((p : Packet) → get outgoing n ≡ some p → l ≡ length (p .bytes))
-
--- ascending numbers from a to below b
-abbrev pub Ascending : ℕ → ℕ → List ℕ → Type 0
-Ascending a b [] = a ≤ b
-Ascending a b (n ∷ ns) = (a ≤ n) × Ascending (suc n) b ns
+-- numbers from a to below b
+abbrev pub Between : ℕ → ℕ → List ℕ → Type 0
+Between a b ns = All (λ n. (a ≤ n) × (n < b)) ns
 
 -- the queue with nothing left to take
-pub record AtRest (remoteAcked seq : ℕ) (outgoing : Slots Packet) (q : List Entry) : Type 0 where
-  pub ascending : Ascending remoteAcked seq (numbers q)
+pub record AtRest (more : Bool) (remoteAcked seq : ℕ) (outgoing : Slots Packet) (q : List Entry) : Type 0 where
+  pub once : distinct (numbers q) ≡ true
+  pub known : Between remoteAcked seq (numbers q)
   pub states : states q ≤ 63
-  pub queued : SlotsOk (QueuedOnce q) outgoing
+  pub queued : more ≡ true → SlotsOk (QueuedOnce q) outgoing
 
 -- the queue while it is left to take
 pub record ToTake (q : List Entry) : Type 0 where
@@ -79,7 +79,6 @@ pub record ToTake (q : List Entry) : Type 0 where
 pub record Numbers (seq remoteAcked largestAck : ℕ) : Type 0 where
   pub acked-seq : remoteAcked ≤ seq
   pub seq-near : seq ≤ remoteAcked + ceiling
-  pub seq-fits : seq ≤ 4_294_967_295
   pub largest-seq : largestAck ≤ seq
 
 -- inflight and the two inflight totals count what is stored
@@ -97,143 +96,153 @@ pub record InRanges (rtt : Rtt) (cwnd drive last : ℕ) : Type 0 where
 
 -- the same, of the parts of an end
 abbrev pub StoredIn : End → ℕ → Packet → Type 0
-StoredIn e = StoredFacts (e .sender .remoteAcked) (e .sender .seq) (e .clocks .last) (e .queue .entries)
+StoredIn e = StoredFacts (e .sender .remoteAcked) (e .sender .seq) (e .clocks .last)
 
-abbrev pub EntryIn : End → Entry → Type 0
-EntryIn e = EntryFacts (e .sender .seq) (e .sender .outgoing)
+abbrev pub RestIn : Bool → End → Type 0
+RestIn more e = AtRest more (e .sender .remoteAcked) (e .sender .seq) (e .sender .outgoing) (e .queue .entries)
 
-abbrev pub RestIn : End → Type 0
-RestIn e = AtRest (e .sender .remoteAcked) (e .sender .seq) (e .sender .outgoing) (e .queue .entries)
-
--- the receiver: its rules, and number ack is not held, since ack has moved past all held in order
-abbrev pub ReceiverFacts : Receiver → Type 0
-ReceiverFacts r =
+-- the receiver: its rules; and number ack is not held, since ack has moved past all held in order
+abbrev pub ReceiverFacts : Bool → Receiver → Type 0
+ReceiverFacts more r =
     record {
       cursor-ack : r .readCursor ≤ r .ack;
       ack-near : r .ack ≤ r .readCursor + ceiling;
       slots : length (r .incoming) ≡ ceiling;
       held : SlotsOk (HeldFacts (r .readCursor)) (r .incoming);
-      gap : get (r .incoming) (r .ack) ≡ none;
+      gap : more ≡ true → get (r .incoming) (r .ack) ≡ none;
     }
 
 -- all but what is left to take
-abbrev pub Facts : End → Type 0
-Facts e =
+abbrev pub FactsWith : Bool → End → Type 0
+FactsWith more e =
     record {
       numbers : Numbers (e .sender .seq) (e .sender .remoteAcked) (e .sender .largestAck);
       slots : length (e .sender .outgoing) ≡ ceiling;
       stored : SlotsOk (StoredIn e) (e .sender .outgoing);
+      spare : more ≡ true → SlotsOk (Spare (e .queue .entries)) (e .sender .outgoing);
       sums : Sums (e .sender .inflight) (e .totals .inflightPackets) (e .totals .inflightBytes) (e .sender .outgoing);
-      receiver : ReceiverFacts (e .receiver);
+      receiver : ReceiverFacts more (e .receiver);
       ranges : InRanges (e .timing .rtt) (e .sender .cwnd) (e .clocks .drive) (e .clocks .last);
       segments : InSegments (e .ids .segments);
-      entries : All (EntryIn e) (e .queue .entries);
+      entries : All (EntryKept (e .sender .outgoing)) (e .queue .entries);
     }
 
 -- nothing is left to take, or the whole queue
-pub data Left (e : End) : Type 0 where
-  atRest : e .queue .left ≡ 0 → RestIn e → Left e
-  toTake : 0 < e .queue .left → e .queue .left ≡ length (e .queue .entries) → ToTake (e .queue .entries) → Left e
+pub data Left (more : Bool) (e : End) : Type 0 where
+  atRest : e .queue .left ≡ 0 → RestIn more e → Left more e
+  toTake : 0 < e .queue .left → e .queue .left ≡ length (e .queue .entries) → ToTake (e .queue .entries) → Left more e
+
+abbrev pub InvariantWith : Bool → End → Type 0
+InvariantWith more e = record { facts : FactsWith more e; left : Left more e }
+
+abbrev pub Facts : End → Type 0
+Facts e = FactsWith true e
 
 abbrev pub Invariant : End → Type 0
-Invariant e = record { facts : Facts e; left : Left e }
+Invariant e = InvariantWith true e
 
 -- the rules follow
 
-every-true : {A : Type 0} (P : A → Type 0) (f : A → Bool) (xs : List A) → ((x : A) → P x → f x ≡ true) → All P xs → every f xs ≡ true
-every-true P f [] h a = refl
-every-true P f (x ∷ xs) h a = rw (h x (a .0)) (every-true P f xs h (a .1))
+pub all-every : {A : Type 0} {P Q : A → Type 0} (f : (x : A) → P x → Q x) (xs : List A) → All P xs → Every Q xs
+all-every f [] a = tt
+all-every f (x ∷ xs) a = (f x (a .0), all-every f xs (a .1))
 
-ascending-absent : (a b : ℕ) (ns : List ℕ) → Ascending a b ns → (n : ℕ) → n < a → absent n ns ≡ true
-ascending-absent a b [] h n l = refl
-ascending-absent a b (m ∷ ns) h n l =
-    let u = h .0 in rw (ne-eqb n m (λ z. absurd (omega arith))) (ascending-absent (suc m) b ns (h .1) n (omega arith))
+every-all : {A : Type 0} (P : A → Type 0) (xs : List A) → Every P xs → All P xs
+every-all P [] a = tt
+every-all P (x ∷ xs) a = (a .0, every-all P xs (a .1))
 
-ascending-distinct : (a b : ℕ) (ns : List ℕ) → Ascending a b ns → distinct ns ≡ true
-ascending-distinct a b [] h = refl
-ascending-distinct a b (n ∷ ns) h = rw (ascending-absent (suc n) b ns (h .1) n (le-refl _)) (ascending-distinct (suc n) b ns (h .1))
+pub kept-rules : {more : Bool} (e : End) → InvariantWith more e → rules e ≡ true
+kept-rules {more} e g =
+    let n = g .facts .numbers in
+    let c = g .facts .receiver in
+    let s = g .facts .sums in
+    let r = g .facts .ranges in
+    rules-said e
+    (record {
+      acked-seq = n .acked-seq;
+      seq-near = n .seq-near;
+      largest-seq = n .largest-seq;
+      cursor-ack = c .cursor-ack;
+      ack-near = c .ack-near;
+      stored = λ i x z.
+          let (a, f) = g .facts .stored i x z in
+          record { in-slot = a; from = f .from; below = f .below; least = f .least; most = f .most; transmits = f .transmits; sent = f .sent };
+      held = λ i x z.
+          let (a, f) = c .held i x z in
+          record { in-slot = a; from = f .from; below = f .below; fits = f .fits; most = f .most; offset = f .offset };
+      inflight = s .inflight;
+      packets = s .packets;
+      bytes = s .bytes;
+      estimate = r .estimate;
+      drive-last = r .drive-last;
+      last-fits = r .last-fits;
+      window-least = r .window .least;
+      window-most = r .window .most;
+      segments-least = g .facts .segments .least;
+      segments-most = g .facts .segments .most;
+      entries = all-every (λ x k. k) (e .queue .entries) (g .facts .entries);
+      rest = rest (g .left);
+      to-take = to-take (g .left);
+    })
+  where
+    rest : Left more e → e .queue .left ≡ 0 → RestKept (e .sender) (e .queue .entries)
+    rest (atRest a h) z = record { once = h .once; known = all-every (λ n k. k) (numbers (e .queue .entries)) (h .known); states = h .states }
+    rest (toTake p a h) z = absurd (omega arith)
 
-pub ascending-length : (a b : ℕ) (ns : List ℕ) → Ascending a b ns → length ns + a ≤ b
-ascending-length a b [] h = omega arith
-ascending-length a b (n ∷ ns) h = let u = h .0 in let v = ascending-length (suc n) b ns (h .1) in omega arith
-
-ascending-between : (a b c : ℕ) (ns : List ℕ) → c ≤ a → Ascending a b ns → All (λ n. (c ≤ n) × (n < b)) ns
-ascending-between a b c [] l h = tt
-ascending-between a b c (n ∷ ns) l h =
-    let u = h .0 in
-    let v = ascending-length (suc n) b ns (h .1) in
-    ((omega arith, omega arith), ascending-between (suc n) b c ns (omega arith) (h .1))
+    to-take : Left more e → (e .queue .left ≡ 0 → ⊥) → ToTakeKept (e .queue)
+    to-take (atRest a h) z = absurd (z a)
+    to-take (toTake p a h) z = record { whole = a; states = h .states; packets = h .packets }
 
 pub invariant-rules : (e : End) → Invariant e → rules e ≡ true
-unfolding rules
-invariant-rules e g =
-    and-true (and-true (le-leb _ _ (n .acked-seq)) (and-true (le-leb _ _ (n .seq-near)) (le-leb _ _ (n .largest-seq))))
-    (and-true (and-true (le-leb _ _ (c .cursor-ack)) (le-leb _ _ (c .ack-near)))
-    (and-true stored
-    (and-true held
-    (and-true (and-true (eq-eqb _ _ (s .inflight)) (and-true (eq-eqb _ _ (s .packets)) (eq-eqb _ _ (s .bytes))))
-    (and-true (and-true (lt-ltb _ _ (r .estimate .srtt)) (and-true (lt-ltb _ _ (r .estimate .rttvar)) (and-true (le-leb _ _ (r .estimate .least)) (le-leb _ _ (r .estimate .most)))))
-    (and-true (and-true (le-leb _ _ (r .drive-last)) (lt-ltb _ _ (r .last-fits)))
-    (and-true (and-true (le-leb _ _ (r .window .least)) (le-leb _ _ (r .window .most)))
-    (and-true (and-true (le-leb _ _ (g .facts .segments .least)) (le-leb _ _ (g .facts .segments .most)))
-    (and-true entries (queue (g .left)))))))))))
+invariant-rules e g = kept-rules e g
+
+-- and where they hold they are the invariant without more
+pub rules-kept : (e : End) → length (e .sender .outgoing) ≡ ceiling → length (e .receiver .incoming) ≡ ceiling → rules e ≡ true → InvariantWith false e
+rules-kept e out in-slots h =
+    record {
+      facts =
+          record {
+            numbers = record { acked-seq = k .acked-seq; seq-near = k .seq-near; largest-seq = k .largest-seq };
+            slots = out;
+            stored = λ i x z.
+                let f = k .stored i x z in
+                (f .in-slot, record { from = f .from; below = f .below; least = f .least; most = f .most; transmits = f .transmits; sent = f .sent });
+            spare = λ z. absurd (true≢false (sym z));
+            sums = record { inflight = k .inflight; packets = k .packets; bytes = k .bytes };
+            receiver =
+                record {
+                  cursor-ack = k .cursor-ack;
+                  ack-near = k .ack-near;
+                  slots = in-slots;
+                  held = λ i x z.
+                      let f = k .held i x z in
+                      (f .in-slot, record { from = f .from; below = f .below; fits = f .fits; most = f .most; offset = f .offset });
+                  gap = λ z. absurd (true≢false (sym z));
+                };
+            ranges =
+                record {
+                  estimate = k .estimate;
+                  window = record { least = k .window-least; most = k .window-most };
+                  drive-last = k .drive-last;
+                  last-fits = k .last-fits;
+                };
+            segments = record { least = k .segments-least; most = k .segments-most };
+            entries = every-all (EntryKept (e .sender .outgoing)) (e .queue .entries) (k .entries);
+          };
+      left = go (ℕ-discrete (e .queue .left) 0);
+    }
   where
-    n : Numbers (e .sender .seq) (e .sender .remoteAcked) (e .sender .largestAck)
-    n = g .facts .numbers
+    k : KeepsRules e
+    k = rules-say e h
 
-    c : ReceiverFacts (e .receiver)
-    c = g .facts .receiver
-
-    s : Sums (e .sender .inflight) (e .totals .inflightPackets) (e .totals .inflightBytes) (e .sender .outgoing)
-    s = g .facts .sums
-
-    r : InRanges (e .timing .rtt) (e .sender .cwnd) (e .clocks .drive) (e .clocks .last)
-    r = g .facts .ranges
-
-    sentTest : (o : Option ℕ) → ((t : ℕ) → o ≡ some t → t ≤ e .clocks .last) → on o true (λ t. leb t (e .clocks .last)) ≡ true
-    sentTest none h = refl
-    sentTest (some t) h = le-leb t (e .clocks .last) (h t refl)
-
-    stored : everySlot (storedTest e) (e .sender .outgoing) ≡ true
-    stored =
-        every-slot (storedTest e) (e .sender .outgoing)
-        (λ i x z.
-        let (a, f) = g .facts .stored i x z in
-        let u = f .transmits in
-        and-true (eq-eqb _ _ a)
-        (and-true (le-leb _ _ (f .from))
-        (and-true (lt-ltb _ _ (f .below))
-        (and-true (le-leb _ _ (f .least)) (and-true (le-leb _ _ (f .most)) (and-true (le-leb (x .value .marks .transmits) 7 (omega arith)) (sentTest (x .value .marks .sent) (f .sent))))))))
-
-    held : everySlot (heldTest (e .receiver)) (e .receiver .incoming) ≡ true
-    held =
-        every-slot (heldTest (e .receiver)) (e .receiver .incoming)
-        (λ i x z.
-        let (a, f) = c .held i x z in
-        and-true (eq-eqb _ _ a)
-        (and-true (le-leb _ _ (f .from))
-        (and-true (lt-ltb _ _ (f .below)) (and-true (lt-ltb _ _ (f .fits)) (and-true (le-leb _ _ (f .most)) (le-leb _ _ (f .offset)))))))
-
-    sameLength : (l : ℕ) (o : Option Packet) → ((p : Packet) → o ≡ some p → l ≡ length (p .bytes)) → on o true (λ p. eqb l (length (p .bytes))) ≡ true
-    sameLength l none h = refl
-    sameLength l (some p) h = eq-eqb l (length (p .bytes)) (h p refl)
-
-    entry : (x : Entry) → EntryIn e x → entryTest (e .sender .outgoing) x ≡ true
-    entry (state b) h = eq-eqb (length b) 20 h
-    entry (packet m l) h = and-true (le-leb 21 l (h .1)) (and-true (le-leb l 1_400 (h .2)) (sameLength l (get (e .sender .outgoing) m) (h .3)))
-
-    entries : every (entryTest (e .sender .outgoing)) (e .queue .entries) ≡ true
-    entries = every-true (EntryIn e) (entryTest (e .sender .outgoing)) (e .queue .entries) entry (g .facts .entries)
-
-    queue : Left e → queueTest (e .sender) (e .queue) ≡ true
-    queue (atRest z h) =
-        rw (eq-eqb (e .queue .left) 0 z)
-        (and-true (ascending-distinct (e .sender .remoteAcked) (e .sender .seq) (numbers (e .queue .entries)) (h .ascending))
-        (and-true
-        (every-true (λ n. (e .sender .remoteAcked ≤ n) × (n < e .sender .seq)) _ (numbers (e .queue .entries))
-        (λ n u. and-true (le-leb (e .sender .remoteAcked) n (u .0)) (lt-ltb n (e .sender .seq) (u .1)))
-        (ascending-between (e .sender .remoteAcked) (e .sender .seq) (e .sender .remoteAcked) (numbers (e .queue .entries)) (le-refl _) (h .ascending)))
-        (le-leb _ _ (h .states))))
-    queue (toTake p z h) =
-        rw (ne-eqb (e .queue .left) 0 (λ w. absurd (omega arith)))
-        (and-true (eq-eqb _ _ z) (and-true (le-leb _ _ (h .states)) (le-leb _ _ (h .packets))))
+    go : Dec (e .queue .left ≡ 0) → Left false e
+    go (yes z) =
+        let r = k .rest z in
+        atRest z
+        (record {
+          once = r .once;
+          known = every-all (λ n. (e .sender .remoteAcked ≤ n) × (n < e .sender .seq)) (numbers (e .queue .entries)) (r .known);
+          states = r .states;
+          queued = λ y. absurd (true≢false (sym y));
+        })
+    go (no z) = let t = k .to-take z in toTake (omega (arith, z)) (t .whole) (record { states = t .states; packets = t .packets })

@@ -32,9 +32,10 @@ fresh-invariant local remote segments clock least most y =
     record {
       facts =
           record {
-            numbers = record { acked-seq = le-refl _; seq-near = zero-le; seq-fits = zero-le; largest-seq = le-refl _ };
+            numbers = record { acked-seq = le-refl _; seq-near = zero-le; largest-seq = le-refl _ };
             slots = none-length Packet;
             stored = λ i x z. absurd (no-some (getD-none Packet i) z);
+            spare = λ y i x z. absurd (no-some (getD-none Packet i) z);
             sums = record { inflight = refl; packets = refl; bytes = refl };
             receiver =
                 record {
@@ -42,7 +43,7 @@ fresh-invariant local remote segments clock least most y =
                   ack-near = zero-le;
                   slots = none-length Held;
                   held = λ i x z. absurd (no-some (getD-none Held i) z);
-                  gap = get-none Held 0;
+                  gap = λ y. get-none Held 0;
                 };
             ranges =
                 record {
@@ -54,7 +55,7 @@ fresh-invariant local remote segments clock least most y =
             segments = record { least = least; most = most };
             entries = tt;
           };
-      left = atRest refl (record { ascending = le-refl _; states = zero-le; queued = λ i x z. absurd (no-some (getD-none Packet i) z) });
+      left = atRest refl (record { once = refl; known = tt; states = zero-le; queued = λ y i x z. absurd (no-some (getD-none Packet i) z) });
     }
 
 pub or-false : (a b : Bool) → (a || b) ≡ false → (a ≡ false) × (b ≡ false)

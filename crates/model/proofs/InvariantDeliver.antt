@@ -6,7 +6,7 @@ use native.Mathlib.Omega.{arith}
 use mathlib.Core.Path.{_≡_, refl, _∙_}
 use mathlib.Core.List.{List, [], _∷_}
 use mathlib.Core.Option.{Option, none, some}
-use mathlib.Core.Bool.{true, false, cond}
+use mathlib.Core.Bool.{Bool, true, false, cond}
 use lib.Dec.{ltb, leb}
 use borrow.Author.Tests.{ltb-false, leb-true, leb-false}
 use lib.ListN.{length, getD, drop}
@@ -28,7 +28,7 @@ use Rattle.model.proofs.Slots.{insert-length}
 use Rattle.model.proofs.SlotSums.{SlotsOk, slots-look, slots-insert}
 use Rattle.model.proofs.Gate.{noTest, by-gate, clear, and-false, clock-fits}
 use Rattle.model.proofs.Ranges.{InWindow, grown-range}
-use Rattle.model.proofs.Invariant.{HeldFacts, ReceiverFacts, Invariant}
+use Rattle.model.proofs.Invariant.{HeldFacts, ReceiverFacts, InvariantWith}
 use Rattle.model.proofs.InvariantSteps.{states-append, facts-clocks, facts-window}
 use Rattle.model.proofs.InvariantMarks.{facts-acked, rest-acked, by-ack}
 use Rattle.model.proofs.InvariantSend.{Resting, resting-of, invariant-of, resting-state, resting-terminate}
@@ -48,14 +48,15 @@ module _ (Q : End → Type 0) (clock : ℕ) (one : (n : ℕ) (e : End) → Q e �
   by-blocks [] e t = t
   by-blocks (b ∷ bs) e t = by-blocks bs (ackNumbers clock (b .end - b .start) (b .start) e) (by-numbers (b .end - b .start) (b .start) e t)
 
-abbrev Taking : ℕ → Receiver → ℕ → End → Type 0
-Taking most r seq e =
-    record { resting : Resting e; states : states (e .queue .entries) ≤ most; receiver : e .receiver ≡ r; seq : e .sender .seq ≡ seq }
+abbrev Taking : Bool → ℕ → Receiver → ℕ → End → Type 0
+Taking more most r seq e =
+    record { resting : Resting more e; states : states (e .queue .entries) ≤ most; receiver : e .receiver ≡ r; seq : e .sender .seq ≡ seq }
 
-taking-acked : (clock most : ℕ) (r : Receiver) (seq : ℕ) → clock < 2 ^ 60 → (n : ℕ) (e : End) → Taking most r seq e → Taking most r seq (ackNumber clock n e)
-taking-acked clock most r seq y n e t =
+taking-acked : {more : Bool} (clock most : ℕ) (r : Receiver) (seq : ℕ) → clock < 2 ^ 60 → (n : ℕ) (e : End) → Taking more most r seq e
+    → Taking more most r seq (ackNumber clock n e)
+taking-acked {more} clock most r seq y n e t =
     let g = t .resting in
-    by-ack (Taking most r seq) clock n e (λ z. t)
+    by-ack (Taking more most r seq) clock n e (λ z. t)
     (λ p z.
     record {
       resting = record { facts = facts-acked clock n e (g .facts) p z y; none-left = g .none-left; rest = rest-acked clock n e (g .facts) p z (g .rest) };
@@ -76,32 +77,33 @@ Holding r =
       ack-near : r .ack ≤ r .readCursor + ceiling;
     }
 
-receiver-advanced : (k : ℕ) (r : Receiver) → r .readCursor + ceiling ≤ r .ack + k → Holding r → ReceiverFacts (advance k r)
+receiver-advanced : (more : Bool) (k : ℕ) (r : Receiver) → r .readCursor + ceiling ≤ r .ack + k → Holding r → ReceiverFacts more (advance k r)
 unfolding advance
-receiver-advanced zero r l x =
-    record { slots = x .slots; held = x .held; cursor-ack = x .cursor-ack; ack-near = x .ack-near; gap = go (get (r .incoming) (r .ack)) refl }
+receiver-advanced more zero r l x =
+    record { slots = x .slots; held = x .held; cursor-ack = x .cursor-ack; ack-near = x .ack-near; gap = λ y. go (get (r .incoming) (r .ack)) refl }
   where
     go : (o : Option Held) → get (r .incoming) (r .ack) ≡ o → o ≡ none
     go none z = refl
     go (some h) z = let k = slots-look (HeldFacts (r .readCursor)) (r .incoming) (r .ack) h (x .held) z .below in absurd (omega arith)
-receiver-advanced (suc k) r l x = go (get (r .incoming) (r .ack)) refl (λ y. receiver-advanced k (acked r) (omega arith) y)
+receiver-advanced more (suc k) r l x = go (get (r .incoming) (r .ack)) refl (λ y. receiver-advanced more k (acked r) (omega arith) y)
   where
-    go : (o : Option Held) → get (r .incoming) (r .ack) ≡ o → (Holding (acked r) → ReceiverFacts (advance k (acked r))) → ReceiverFacts (on o r (λ h. advance k (acked r)))
-    go none z rec = record { slots = x .slots; held = x .held; cursor-ack = x .cursor-ack; ack-near = x .ack-near; gap = z }
+    go : (o : Option Held) → get (r .incoming) (r .ack) ≡ o → (Holding (acked r) → ReceiverFacts more (advance k (acked r))) → ReceiverFacts more (on o r (λ h. advance k (acked r)))
+    go none z rec = record { slots = x .slots; held = x .held; cursor-ack = x .cursor-ack; ack-near = x .ack-near; gap = λ y. z }
     go (some h) z rec =
         let k = slots-look (HeldFacts (r .readCursor)) (r .incoming) (r .ack) h (x .held) z .below in
         let u = x .cursor-ack in
         rec (record { slots = x .slots; held = x .held; cursor-ack = omega arith; ack-near = k })
 
-receiver-absorbed : (n : ℕ) (payload : Bytes) (r : Receiver) → n < r .readCursor + ceiling → n < 4_294_967_295 → length payload ≤ 1_380 → ReceiverFacts r → ReceiverFacts (absorb n payload r)
+receiver-absorbed : {more : Bool} (n : ℕ) (payload : Bytes) (r : Receiver) → n < r .readCursor + ceiling → n < 4_294_967_295 → length payload ≤ 1_380 → ReceiverFacts more r
+    → ReceiverFacts more (absorb n payload r)
 unfolding absorb
-receiver-absorbed n payload r near t l x =
-    by-test (λ (s : Receiver). ReceiverFacts (advance ((r .readCursor + ceiling) - r .ack) s)) (leb (r .ack) n) (held n payload r) r
+receiver-absorbed {more} n payload r near t l x =
+    by-test (λ (s : Receiver). ReceiverFacts more (advance ((r .readCursor + ceiling) - r .ack) s)) (leb (r .ack) n) (held n payload r) r
     (λ q.
     let u = leb-true (r .ack) n q in
     let v = x .cursor-ack in
     let h : Held = record { payload = payload; offset = 0 } in
-    receiver-advanced ((r .readCursor + ceiling) - r .ack) (held n payload r) (omega arith)
+    receiver-advanced more ((r .readCursor + ceiling) - r .ack) (held n payload r) (omega arith)
     (record {
       slots = insert-length (r .incoming) n h ∙ x .slots;
       held =
@@ -111,11 +113,11 @@ receiver-absorbed n payload r near t l x =
       ack-near = x .ack-near;
     }))
     (λ q.
-    receiver-advanced ((r .readCursor + ceiling) - r .ack) r (omega arith)
+    receiver-advanced more ((r .readCursor + ceiling) - r .ack) r (omega arith)
     (record { slots = x .slots; held = x .held; cursor-ack = x .cursor-ack; ack-near = x .ack-near }))
 
 -- the header's ack
-resting-ack : (h : Header) (e : End) → h .ack ≤ e .sender .seq → Resting e → Resting (onAck h e)
+resting-ack : {more : Bool} (h : Header) (e : End) → h .ack ≤ e .sender .seq → Resting more e → Resting more (onAck h e)
 resting-ack h e l r =
     let w = r .facts .ranges .window in
     record {
@@ -129,12 +131,12 @@ resting-ack h e l r =
 
 -- a delivery whose tests all failed
 
-module _ (clock : ℕ) (datagram : Bytes) (h : Header) (payload : Bytes) (e : End) (g : Invariant e)
+module _ {more : Bool} (clock : ℕ) (datagram : Bytes) (h : Header) (payload : Bytes) (e : End) (g : InvariantWith more e)
     (tests : (n : ℕ) → (getD (deliverTests clock datagram h payload e) n noTest) .holds ≡ false) where
-  resting-data : (x : End) → Taking 62 (e .receiver) (e .sender .seq) x → Resting (onAck h (onData h payload x))
+  resting-data : (x : End) → Taking more 62 (e .receiver) (e .sender .seq) x → Resting more (onAck h (onData h payload x))
   unfolding countData onData
   resting-data x t =
-      by-test (λ (z : End). Resting (onAck h z)) (hasType 1 (h .typ)) (sendStatePacket y) x
+      by-test (λ (z : End). Resting more (onAck h z)) (hasType 1 (h .typ)) (sendStatePacket y) x
       (λ q. resting-ack h (sendStatePacket y) ackLe (resting-state y (t .states) (brought q)))
       (λ q. resting-ack h x ackLe (t .resting))
     where
@@ -147,7 +149,7 @@ module _ (clock : ℕ) (datagram : Bytes) (h : Header) (payload : Bytes) (e : En
       ackLe : h .ack ≤ x .sender .seq
       ackLe = rw (t .seq) (ltb-false (e .sender .seq) (h .ack) (tests 7))
 
-      brought : hasType 1 (h .typ) ≡ true → Resting y
+      brought : hasType 1 (h .typ) ≡ true → Resting more y
       brought q =
           record {
             facts =
@@ -161,10 +163,10 @@ module _ (clock : ℕ) (datagram : Bytes) (h : Header) (payload : Bytes) (e : En
             rest = t .resting .rest;
           }
 
-  resting-end : (x : End) → Taking 61 (e .receiver) (e .sender .seq) x → Resting (onAck h (onData h payload (onEnd h x)))
+  resting-end : (x : End) → Taking more 61 (e .receiver) (e .sender .seq) x → Resting more (onAck h (onData h payload (onEnd h x)))
   unfolding onEnd
   resting-end x t =
-      by-test (λ (z : End). Resting (onAck h (onData h payload z))) (hasType 2 (h .typ)) (terminate error.UnexpectedEof y) x
+      by-test (λ (z : End). Resting more (onAck h (onData h payload z))) (hasType 2 (h .typ)) (terminate error.UnexpectedEof y) x
       (λ q.
       resting-data (terminate error.UnexpectedEof y)
       (record {
@@ -178,13 +180,13 @@ module _ (clock : ℕ) (datagram : Bytes) (h : Header) (payload : Bytes) (e : En
       y : End
       y = withEnding (remoteEnded (x .ending)) x
 
-  resting-incoming : Resting (handleIncoming clock h payload e)
+  resting-incoming : Resting more (handleIncoming clock h payload e)
   unfolding countReceived onSack handleIncoming
   resting-incoming =
-      by-test (λ (x : End). Resting (onAck h (onData h payload (onEnd h x)))) (hasType 4 (h .typ)) (ackBlocks clock (blocks payload) y) y
+      by-test (λ (x : End). Resting more (onAck h (onData h payload (onEnd h x)))) (hasType 4 (h .typ)) (ackBlocks clock (blocks payload) y) y
       (λ q.
       resting-end (ackBlocks clock (blocks payload) y)
-      (by-blocks (Taking 61 (e .receiver) (e .sender .seq)) clock (taking-acked clock 61 (e .receiver) (e .sender .seq) (fits .0)) (blocks payload) y start))
+      (by-blocks (Taking more 61 (e .receiver) (e .sender .seq)) clock (taking-acked clock 61 (e .receiver) (e .sender .seq) (fits .0)) (blocks payload) y start))
       (λ q. resting-end y start)
     where
       y : End
@@ -193,7 +195,7 @@ module _ (clock : ℕ) (datagram : Bytes) (h : Header) (payload : Bytes) (e : En
       fits : (clock < 2 ^ 60) × (e .clocks .last ≤ clock)
       fits = clock-fits clock e (tests 1)
 
-      start : Taking 61 (e .receiver) (e .sender .seq) y
+      start : Taking more 61 (e .receiver) (e .sender .seq) y
       start =
           let r = resting-of e g (tests 3) in
           let l = r .facts .ranges .drive-last in
@@ -205,12 +207,12 @@ module _ (clock : ℕ) (datagram : Bytes) (h : Header) (payload : Bytes) (e : En
             seq = refl;
           }
 
-pub deliver-keeps : (datagram : Bytes) (clock : ℕ) (e : End) → Invariant e → Invariant ((deliver datagram clock e) .end)
+pub deliver-keeps : {more : Bool} (datagram : Bytes) (clock : ℕ) (e : End) → InvariantWith more e → InvariantWith more ((deliver datagram clock e) .end)
 unfolding deliverRefusal deliver
-deliver-keeps datagram clock e g =
+deliver-keeps {more} datagram clock e g =
     let h = fields datagram in
     let payload = drop 20 datagram in
-    by-gate (λ (a : Answer). Invariant (a .end)) (deliverRefusal datagram clock e) e (answered Ready (handleIncoming clock h payload e)) (λ why. g)
+    by-gate (λ (a : Answer). InvariantWith more (a .end)) (deliverRefusal datagram clock e) e (answered Ready (handleIncoming clock h payload e)) (λ why. g)
     (λ z.
     invariant-of (handleIncoming clock h payload e)
     (resting-incoming clock datagram h payload e g (clear (deliverTests clock datagram h payload e) z)))

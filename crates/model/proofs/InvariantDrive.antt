@@ -7,7 +7,7 @@ use native.Mathlib.Omega.{arith}
 use mathlib.Core.Path.{_≡_, refl}
 use mathlib.Core.List.{[], _∷_, append-nil}
 use mathlib.Core.Option.{Option, none, some}
-use mathlib.Core.Bool.{true, false, cond}
+use mathlib.Core.Bool.{Bool, true, false, cond}
 use lib.Dec.{ltb}
 use borrow.Author.Tests.{ltb-false}
 use lib.ListN.{length, length-append}
@@ -26,7 +26,8 @@ use Rattle.model.specs.Answers.{Answer, answered}
 use Rattle.model.proofs.Lists.{by-test}
 use Rattle.model.proofs.SlotSums.{SlotsOk, slots-look, slots-again}
 use Rattle.model.proofs.Ranges.{halved-range}
-use Rattle.model.proofs.Invariant.{QueuedOnce, Facts, ascending-length, atRest, Invariant}
+use Rattle.model.proofs.Invariant.{QueuedOnce, FactsWith, atRest, InvariantWith, all-every}
+use Rattle.model.proofs.RulesKept.{distinct-few}
 use Rattle.model.proofs.Gate.{by-gate, clear, clock-fits}
 use Rattle.model.proofs.InvariantSteps.{states-append, numbers-append, facts-clocks, facts-window, facts-timing}
 use Rattle.model.proofs.InvariantMarks.{facts-lost, facts-flushed, slots-stay, facts-acked, by-ack, removed, facts-settled}
@@ -36,22 +37,25 @@ use Rattle.model.proofs.InvariantTake.{left-all}
 -- settling
 
 -- what a drive keeps while it settles and looks at timeouts; packets from m on are as they were
-abbrev pub Driving : ℕ → End → Type 0
-Driving m e =
+abbrev pub DrivingWith : Bool → ℕ → End → Type 0
+DrivingWith more m e =
     record {
-      facts : Facts e;
-      queued : SlotsOk (λ n p. m ≤ n → QueuedOnce (e .queue .entries) n p) (e .sender .outgoing);
+      facts : FactsWith more e;
+      queued : more ≡ true → SlotsOk (λ n p. m ≤ n → QueuedOnce (e .queue .entries) n p) (e .sender .outgoing);
       states : states (e .queue .entries) ≤ 63;
       packets : length (numbers (e .queue .entries)) ≤ 32;
     }
 
-driving-settled : (clock k : ℕ) (e : End) → clock < 2 ^ 60 → e .sender .remoteAcked + k ≤ e .sender .seq → Driving 0 e → Driving 0 (settleLoop clock k e)
+abbrev pub Driving : ℕ → End → Type 0
+Driving m e = DrivingWith true m e
+
+driving-settled : {more : Bool} (clock k : ℕ) (e : End) → clock < 2 ^ 60 → e .sender .remoteAcked + k ≤ e .sender .seq → DrivingWith more 0 e → DrivingWith more 0 (settleLoop clock k e)
 unfolding settleLoop
 driving-settled clock zero e y l d = d
-driving-settled clock (suc k) e y l d = let (a, b) = one in driving-settled clock k (settleOne clock e) y a b
+driving-settled {more} clock (suc k) e y l d = let (a, b) = one in driving-settled clock k (settleOne clock e) y a b
   where
     Q : End → Type 0
-    Q x = let z = withSender (settled (x .sender)) x in (z .sender .remoteAcked + k ≤ z .sender .seq) × Driving 0 z
+    Q x = let z = withSender (settled (x .sender)) x in (z .sender .remoteAcked + k ≤ z .sender .seq) × DrivingWith more 0 z
 
     there : (p : Packet) → get (e .sender .outgoing) (e .sender .remoteAcked) ≡ some p → Q (handleRemoteAck clock (e .sender .remoteAcked) p e)
     there p z = (
@@ -60,8 +64,8 @@ driving-settled clock (suc k) e y l d = let (a, b) = one in driving-settled cloc
         facts =
             facts-settled (handleRemoteAck clock (e .sender .remoteAcked) p e) (removed (e .sender .outgoing) (e .sender .remoteAcked) (d .facts .slots)) (omega arith)
             (facts-acked clock (e .sender .remoteAcked) e (d .facts) p z y);
-        queued =
-            slots-stay (λ n p. 0 ≤ n → QueuedOnce (e .queue .entries) n p) (e .sender .outgoing) (e .sender .remoteAcked) (d .facts .slots) (d .queued);
+        queued = λ w.
+            slots-stay (λ n p. 0 ≤ n → QueuedOnce (e .queue .entries) n p) (e .sender .outgoing) (e .sender .remoteAcked) (d .facts .slots) (d .queued w);
         states = d .states;
         packets = d .packets;
       },
@@ -73,7 +77,7 @@ driving-settled clock (suc k) e y l d = let (a, b) = one in driving-settled cloc
         (λ z. (omega arith, record { facts = facts-settled e z (omega arith) (d .facts); queued = d .queued; states = d .states; packets = d .packets }))
         there
 
-pub driving-settle : (clock : ℕ) (e : End) → clock < 2 ^ 60 → Driving 0 e → Driving 0 (settle clock e)
+pub driving-settle : {more : Bool} (clock : ℕ) (e : End) → clock < 2 ^ 60 → DrivingWith more 0 e → DrivingWith more 0 (settle clock e)
 unfolding restarted settle
 driving-settle clock e y d =
     let n = d .facts .numbers in
@@ -94,31 +98,31 @@ driving-settle clock e y d =
 
 -- timeouts
 
-pub driving-timed : (k m : ℕ) (e : End) → Driving m e → (j : ℕ) × Driving j (timeOutLoop k m e .end)
+pub driving-timed : {more : Bool} (k m : ℕ) (e : End) → DrivingWith more m e → (j : ℕ) × DrivingWith more j (timeOutLoop k m e .end)
 unfolding timeOutLoop timeOutPacket
 driving-timed zero m e d = (m, d)
-driving-timed (suc k) m e d = go (get (e .sender .outgoing) m) refl (λ x d. driving-timed k (suc m) x d)
+driving-timed {more} (suc k) m e d = go (get (e .sender .outgoing) m) refl (λ x d. driving-timed k (suc m) x d)
   where
     D : Passed → Type 0
-    D t = (j : ℕ) × Driving j (t .end)
+    D t = (j : ℕ) × DrivingWith more j (t .end)
 
-    later : Driving (suc m) e
+    later : DrivingWith more (suc m) e
     later =
         record {
           facts = d .facts;
-          queued = (λ i x z. let (a, b) = d .queued i x z in (a, λ l. b (omega arith)));
+          queued = λ w i x z. (let (a, b) = d .queued w i x z in (a, λ l. b (omega arith)));
           states = d .states;
           packets = d .packets;
         }
 
-    loses : (p : Packet) → get (e .sender .outgoing) m ≡ some p → p .marks .waiting ≡ false → p .marks .transmits ≤ 5 → Driving (suc m) (lost m p e)
+    loses : (p : Packet) → get (e .sender .outgoing) m ≡ some p → p .marks .waiting ≡ false → p .marks .transmits ≤ 5 → DrivingWith more (suc m) (lost m p e)
     loses p z w t =
         record {
           facts =
-              facts-lost e m p z w t (slots-look (λ n p. m ≤ n → QueuedOnce (e .queue .entries) n p) (e .sender .outgoing) m p (d .queued) z (le-refl m)) (d .facts);
-          queued =
+              facts-lost e m p z w t (λ y. slots-look (λ n p. m ≤ n → QueuedOnce (e .queue .entries) n p) (e .sender .outgoing) m p (d .queued y) z (le-refl m)) (d .facts);
+          queued = λ y.
               slots-again (λ n p. m ≤ n → QueuedOnce (e .queue .entries) n p) (λ n p. suc m ≤ n → QueuedOnce (e .queue .entries) n p) (e .sender .outgoing) m (marked lostMarks p)
-              (d .facts .slots) (d .queued) (λ n u ne h l. h (omega arith)) (λ l. absurd (omega arith));
+              (d .facts .slots) (d .queued y) (λ n u ne h l. h (omega arith)) (λ l. absurd (omega arith));
           states = d .states;
           packets = d .packets;
         }
@@ -126,7 +130,7 @@ driving-timed (suc k) m e d = go (get (e .sender .outgoing) m) refl (λ x d. dri
     next : Passed → Passed
     next t = cond (t .failed) t (timeOutLoop k (suc m) (t .end))
 
-    go : (o : Option Packet) → get (e .sender .outgoing) m ≡ o → ((x : End) → Driving (suc m) x → D (timeOutLoop k (suc m) x))
+    go : (o : Option Packet) → get (e .sender .outgoing) m ≡ o → ((x : End) → DrivingWith more (suc m) x → D (timeOutLoop k (suc m) x))
         → D (next (on o (record { failed = false; end = e }) (λ p. timeOutPacket m p e)))
     go none z rec = rec e later
     go (some p) z rec =
@@ -139,36 +143,36 @@ driving-timed (suc k) m e d = go (get (e .sender .outgoing) m) refl (λ x d. dri
 -- flushing
 
 -- room in the queue for k packets more
-abbrev Flushing : ℕ → End → Type 0
-Flushing k e = record { facts : Facts e; states : states (e .queue .entries) ≤ 64; packets : length (numbers (e .queue .entries)) + k ≤ 64 }
+abbrev Flushing : Bool → ℕ → End → Type 0
+Flushing more k e = record { facts : FactsWith more e; states : states (e .queue .entries) ≤ 64; packets : length (numbers (e .queue .entries)) + k ≤ 64 }
 
-flushing-of : (m : ℕ) (e : End) → Driving m e → Flushing 32 e
+flushing-of : {more : Bool} (m : ℕ) (e : End) → DrivingWith more m e → Flushing more 32 e
 flushing-of m e d =
     record { facts = d .facts; states = (let u = d .states in omega arith); packets = (let u = d .packets in omega arith) }
 
 -- the window is halved and the timer set anew
-pub driving-due : (clock : ℕ) (e : End) → Driving 0 e → Driving (e .sender .remoteAcked) (dueEnd clock e)
+pub driving-due : {more : Bool} (clock : ℕ) (e : End) → DrivingWith more 0 e → DrivingWith more (e .sender .remoteAcked) (dueEnd clock e)
 unfolding backedOff
 driving-due clock e d =
     record {
       facts =
           facts-window e (e .sender .largestAck) (halved (e .sender .cwnd)) (d .facts .numbers .largest-seq) (halved-range (e .sender .cwnd) (d .facts .ranges .window)) (d .facts);
-      queued = (λ i x z. let (a, b) = d .queued i x z in (a, λ l. b zero-le));
+      queued = λ w i x z. (let (a, b) = d .queued w i x z in (a, λ l. b zero-le));
       states = d .states;
       packets = d .packets;
     }
 
-flushing-timeouts : (clock : ℕ) (e : End) → Driving 0 e → Flushing 32 (checkTimeouts clock e)
+flushing-timeouts : {more : Bool} (clock : ℕ) (e : End) → DrivingWith more 0 e → Flushing more 32 (checkTimeouts clock e)
 unfolding checkTimeouts
-flushing-timeouts clock e d = by-test (Flushing 32) (due clock e) (timeOutEnd t) e (λ q. passed) (λ q. flushing-of 0 e d)
+flushing-timeouts {more} clock e d = by-test (Flushing more 32) (due clock e) (timeOutEnd t) e (λ q. passed) (λ q. flushing-of 0 e d)
   where
     t : Passed
     t = timeOutLoop (e .sender .seq - e .sender .remoteAcked) (e .sender .remoteAcked) (dueEnd clock e)
 
-    passed : Flushing 32 (timeOutEnd t)
+    passed : Flushing more 32 (timeOutEnd t)
     passed =
         let (j, f) = driving-timed (e .sender .seq - e .sender .remoteAcked) (e .sender .remoteAcked) (dueEnd clock e) (driving-due clock e d) in
-        by-test (Flushing 32) (t .failed) (terminate error.TimedOut (t .end)) (t .end)
+        by-test (Flushing more 32) (t .failed) (terminate error.TimedOut (t .end)) (t .end)
         (λ q.
         record {
           facts = facts-terminate error.TimedOut (t .end) (f .facts);
@@ -178,18 +182,18 @@ flushing-timeouts clock e d = by-test (Flushing 32) (due clock e) (timeOutEnd t)
         })
         (λ q. flushing-of j (t .end) f)
 
-flushing-flushed : (k m : ℕ) (e : End) → Flushing k e → Flushing 0 (flushLoop k m e)
+flushing-flushed : {more : Bool} (k m : ℕ) (e : End) → Flushing more k e → Flushing more 0 (flushLoop k m e)
 unfolding flushLoop
 flushing-flushed zero m e d = d
-flushing-flushed (suc k) m e d = go (get (e .sender .outgoing) m) refl (λ x d. flushing-flushed k (suc m) x d)
+flushing-flushed {more} (suc k) m e d = go (get (e .sender .outgoing) m) refl (λ x d. flushing-flushed k (suc m) x d)
   where
-    less : Flushing k e
+    less : Flushing more k e
     less = record { facts = d .facts; states = d .states; packets = (let u = d .packets in omega arith) }
 
-    stop : Flushing 0 e
+    stop : Flushing more 0 e
     stop = record { facts = d .facts; states = d .states; packets = (let u = d .packets in omega arith) }
 
-    again : (p : Packet) → get (e .sender .outgoing) m ≡ some p → p .marks .waiting ≡ true → Flushing k (flushed m p e)
+    again : (p : Packet) → get (e .sender .outgoing) m ≡ some p → p .marks .waiting ≡ true → Flushing more k (flushed m p e)
     again p z w =
         record {
           facts = facts-flushed e m p z w (d .facts);
@@ -197,17 +201,17 @@ flushing-flushed (suc k) m e d = go (get (e .sender .outgoing) m) refl (λ x d. 
           packets = rw (numbers-append, length-append) (let v = d .packets in omega arith);
         }
 
-    go : (o : Option Packet) → get (e .sender .outgoing) m ≡ o → ((x : End) → Flushing k x → Flushing 0 (flushLoop k (suc m) x))
-        → Flushing 0
+    go : (o : Option Packet) → get (e .sender .outgoing) m ≡ o → ((x : End) → Flushing more k x → Flushing more 0 (flushLoop k (suc m) x))
+        → Flushing more 0
         (on o (flushLoop k (suc m) e)
         (λ p. cond (p .marks .waiting) (cond (fits p (e .sender)) (flushLoop k (suc m) (flushed m p e)) e) (flushLoop k (suc m) e)))
     go none z rec = rec e less
     go (some p) z rec =
-        by-test (Flushing 0) (p .marks .waiting) (cond (fits p (e .sender)) (flushLoop k (suc m) (flushed m p e)) e) (flushLoop k (suc m) e)
-        (λ w. by-test (Flushing 0) (fits p (e .sender)) (flushLoop k (suc m) (flushed m p e)) e (λ q. rec (flushed m p e) (again p z w)) (λ q. stop))
+        by-test (Flushing more 0) (p .marks .waiting) (cond (fits p (e .sender)) (flushLoop k (suc m) (flushed m p e)) e) (flushLoop k (suc m) e)
+        (λ w. by-test (Flushing more 0) (fits p (e .sender)) (flushLoop k (suc m) (flushed m p e)) e (λ q. rec (flushed m p e) (again p z w)) (λ q. stop))
         (λ w. rec e less)
 
-flushing-flush : (e : End) → Flushing 32 e → Flushing 0 (flush e)
+flushing-flush : {more : Bool} (e : End) → Flushing more 32 e → Flushing more 0 (flush e)
 unfolding flush
 flushing-flush e f =
     let n = f .facts .numbers .seq-near in
@@ -217,28 +221,36 @@ flushing-flush e f =
 -- drive
 
 -- a drive that is not refused starts with nothing left to take
-pub driving-start : (clock : ℕ) (e : End) → Invariant e → driveRefusal clock e ≡ none → (clock < 2 ^ 60) × Driving 0 (driveClock clock e)
+pub driving-start : {more : Bool} (clock : ℕ) (e : End) → InvariantWith more e → driveRefusal clock e ≡ none → (clock < 2 ^ 60) × DrivingWith more 0 (driveClock clock e)
 unfolding driveRefusal
 driving-start clock e g z =
     let r = resting-of e g (clear (driveTests clock e) z 3) in
     let (y, l) = clock-fits clock e (clear (driveTests clock e) z 1) in
     let f = facts-clocks e (record { last = clock; drive = clock }) l (le-refl _) y (r .facts) in
-    let u = ascending-length (e .sender .remoteAcked) (e .sender .seq) (numbers (e .queue .entries)) (r .rest .ascending) in
-    let v = f .numbers .seq-near in
-    (y, record { facts = f; queued = (λ i x z. let (a, b) = r .rest .queued i x z in (a, λ l. b)); states = r .rest .states; packets = omega arith })
+    let v = f .numbers .seq-near in (
+      y,
+      record {
+        facts = f;
+        queued = λ w i x z. (let (a, b) = r .rest .queued w i x z in (a, λ l. b));
+        states = r .rest .states;
+        packets =
+            distinct-few (e .sender .remoteAcked) 32 (numbers (e .queue .entries)) (r .rest .once)
+            (all-every (λ n k. let (a, b) = k in (a, omega arith)) (numbers (e .queue .entries)) (r .rest .known));
+      },
+    )
 
-pub drive-keeps : (clock : ℕ) (e : End) → Invariant e → Invariant ((drive clock e) .end)
+pub drive-keeps : {more : Bool} (clock : ℕ) (e : End) → InvariantWith more e → InvariantWith more ((drive clock e) .end)
 unfolding driveRefusal pollDrive drive
-drive-keeps clock e g =
-    by-gate (λ (a : Answer). Invariant (a .end)) (driveRefusal clock e) e
+drive-keeps {more} clock e g =
+    by-gate (λ (a : Answer). InvariantWith more (a .end)) (driveRefusal clock e) e
     (cond (drained e) (answered Done (ended (driveClock clock e))) (answered Ready (pollDrive clock e))) (λ why. g)
     (λ z.
     let r = resting-of e g (clear (driveTests clock e) z 3) in
     let (y, d) = driving-start clock e g z in
-    by-test (λ (a : Answer). Invariant (a .end)) (drained e) (answered Done (ended (driveClock clock e))) (answered Ready (pollDrive clock e))
+    by-test (λ (a : Answer). InvariantWith more (a .end)) (drained e) (answered Done (ended (driveClock clock e))) (answered Ready (pollDrive clock e))
     (λ q. record { facts = d .facts; left = atRest (r .none-left) (r .rest) }) (λ q. polled y d))
   where
-    polled : clock < 2 ^ 60 → Driving 0 (driveClock clock e) → Invariant (pollDrive clock e)
+    polled : clock < 2 ^ 60 → DrivingWith more 0 (driveClock clock e) → InvariantWith more (pollDrive clock e)
     polled y d =
         let x = settle clock (driveClock clock e) in
         let h = flushing-flush (checkTimeouts clock x) (flushing-timeouts clock x (driving-settle clock (driveClock clock e) y d)) in

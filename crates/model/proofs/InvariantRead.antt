@@ -6,7 +6,7 @@ use native.Mathlib.Omega.{arith}
 use mathlib.Core.Path.{_≡_, refl, sym, ap, _∙_}
 use mathlib.Core.Logic.{_≢_}
 use mathlib.Core.Option.{Option, none, some}
-use mathlib.Core.Bool.{cond}
+use mathlib.Core.Bool.{Bool, true, cond}
 use lib.Dec.{ltb}
 use borrow.Author.Tests.{ltb-true}
 use lib.ListN.{length, length-drop}
@@ -19,14 +19,15 @@ use Rattle.model.proofs.Lists.{by-test}
 use Rattle.model.proofs.Slots.{no-some, insert-length, remove-length, insert-none, remove-none}
 use Rattle.model.proofs.SlotSums.{slots-look, slots-map, slots-insert, slots-remove}
 use Rattle.model.proofs.Gate.{by-gate}
-use Rattle.model.proofs.Invariant.{HeldFacts, ReceiverFacts, Facts, Left, atRest, toTake, Invariant}
+use Rattle.model.proofs.Invariant.{HeldFacts, ReceiverFacts, FactsWith, Left, atRest, toTake, Invariant}
 
-pub facts-receiver : (e : End) (r : Receiver) → ReceiverFacts r → Facts e → Facts (withReceiver r e)
+pub facts-receiver : {more : Bool} (e : End) (r : Receiver) → ReceiverFacts more r → FactsWith more e → FactsWith more (withReceiver r e)
 facts-receiver e r x g =
     record {
       numbers = g .numbers;
       slots = g .slots;
       stored = g .stored;
+      spare = g .spare;
       sums = g .sums;
       receiver = x;
       ranges = g .ranges;
@@ -34,12 +35,12 @@ facts-receiver e r x g =
       entries = g .entries;
     }
 
-left-receiver : (e : End) (r : Receiver) → Left e → Left (withReceiver r e)
+left-receiver : (e : End) (r : Receiver) → Left true e → Left true (withReceiver r e)
 left-receiver e r (atRest a h) = atRest a h
 left-receiver e r (toTake p a h) = toTake p a h
 
 -- a packet is finished: it is held, so it is not number ack
-receiver-finished : (r : Receiver) (h : Held) → get (r .incoming) (r .readCursor) ≡ some h → ReceiverFacts r → ReceiverFacts (finished r)
+receiver-finished : (r : Receiver) (h : Held) → get (r .incoming) (r .readCursor) ≡ some h → ReceiverFacts true r → ReceiverFacts true (finished r)
 receiver-finished r h e x =
     record {
       slots = remove-length (r .incoming) (r .readCursor) ∙ x .slots;
@@ -52,19 +53,19 @@ receiver-finished r h e x =
           (slots-remove (HeldFacts (r .readCursor)) (r .incoming) (r .readCursor) (x .slots) (x .held));
       cursor-ack = less (ℕ-discrete (r .readCursor) (r .ack));
       ack-near = (let a = x .ack-near in omega arith);
-      gap = remove-none (r .incoming) (r .readCursor) (r .ack) (x .slots) (x .gap);
+      gap = λ y. remove-none (r .incoming) (r .readCursor) (r .ack) (x .slots) (x .gap y);
     }
   where
     less : Dec (r .readCursor ≡ r .ack) → r .readCursor < r .ack
-    less (yes q) = absurd (no-some (x .gap) (ap (get (r .incoming)) (sym q) ∙ e))
+    less (yes q) = absurd (no-some (x .gap refl) (ap (get (r .incoming)) (sym q) ∙ e))
     less (no q) = let a = x .cursor-ack in omega arith
 
 -- a packet is read in part
 receiver-front : (r : Receiver) (h : Held) (room : ℕ)
     → get (r .incoming) (r .readCursor) ≡ some h
     → room < length (rest h)
-    → ReceiverFacts r
-    → ReceiverFacts (readTo (h .offset + room) h r)
+    → ReceiverFacts true r
+    → ReceiverFacts true (readTo (h .offset + room) h r)
 receiver-front r h room e l x =
     let k = slots-look (HeldFacts (r .readCursor)) (r .incoming) (r .readCursor) h (x .held) e in
     let v : Held = record { payload = h .payload; offset = h .offset + room } in
@@ -75,17 +76,17 @@ receiver-front r h room e l x =
           (record { from = k .from; below = k .below; fits = k .fits; most = k .most; offset = (let u = length-drop (h .offset) (h .payload) in omega arith) });
       cursor-ack = x .cursor-ack;
       ack-near = x .ack-near;
-      gap = insert-none (r .incoming) (r .readCursor) (r .ack) v (x .slots) (x .gap) (λ q. no-some (x .gap) (ap (get (r .incoming)) q ∙ e));
+      gap = λ y. insert-none (r .incoming) (r .readCursor) (r .ack) v (x .slots) (x .gap y) (λ q. no-some (x .gap y) (ap (get (r .incoming)) q ∙ e));
     }
 
-receiver-read : (k room : ℕ) (r : Receiver) → ReceiverFacts r → ReceiverFacts (readLoop k room r .receiver)
+receiver-read : (k room : ℕ) (r : Receiver) → ReceiverFacts true r → ReceiverFacts true (readLoop k room r .receiver)
 unfolding readLoop
 receiver-read zero room r x = x
 receiver-read (suc k) room r x =
     go (get (r .incoming) (r .readCursor)) refl (λ h e. receiver-read k (room - length (rest h)) (finished r) (receiver-finished r h e x))
   where
     Q : Got → Type 0
-    Q t = ReceiverFacts (t .receiver)
+    Q t = ReceiverFacts true (t .receiver)
 
     more : Held → Got
     more h = readLoop k (room - length (rest h)) (finished r)

@@ -19,26 +19,26 @@ use Rattle.model.specs.Rules.{states}
 use Rattle.model.specs.Sending.{piece, goes, failed, terminate, sendStatePacket, sendDataPacket, Written, writeLoop, writeTests, writeRefusal, written, write, closeTests, closeRefusal, close}
 use Rattle.model.proofs.Lists.{by-test}
 use Rattle.model.proofs.Gate.{by-gate, clear, and-left, and-right}
-use Rattle.model.proofs.Invariant.{RestIn, Facts, Left, atRest, toTake, Invariant}
+use Rattle.model.proofs.Invariant.{RestIn, FactsWith, Left, atRest, toTake, InvariantWith}
 use Rattle.model.proofs.InvariantSteps.{facts-state, rest-state, facts-sent, rest-sent}
 
 -- nothing is left to take
-abbrev pub Resting : End → Type 0
-Resting e =
+abbrev pub Resting : Bool → End → Type 0
+Resting more e =
     record {
-      facts : Facts e;
+      facts : FactsWith more e;
       none-left : e .queue .left ≡ 0;
-      rest : RestIn e;
+      rest : RestIn more e;
     }
 
-pub resting-of : (e : End) → Invariant e → ltb 0 (e .queue .left) ≡ false → Resting e
-resting-of e g z = go (g .left)
+pub resting-of : {more : Bool} (e : End) → InvariantWith more e → ltb 0 (e .queue .left) ≡ false → Resting more e
+resting-of {more} e g z = go (g .left)
   where
-    go : Left e → Resting e
+    go : Left more e → Resting more e
     go (atRest a h) = record { facts = g .facts; none-left = a; rest = h }
     go (toTake p a h) = let u = ltb-false 0 (e .queue .left) z in absurd (omega arith)
 
-pub invariant-of : (e : End) → Resting e → Invariant e
+pub invariant-of : {more : Bool} (e : End) → Resting more e → InvariantWith more e
 invariant-of e r = record { facts = r .facts; left = atRest (r .none-left) (r .rest) }
 
 -- write
@@ -47,11 +47,10 @@ some-length : (bytes : Bytes) → isEmpty bytes ≡ false → 1 ≤ length (piec
 some-length [] e = absurd (true≢false e)
 some-length (b ∷ bytes) e = omega arith
 
-pub goes-room : (p : Bytes) (s : Sender) → goes p s ≡ true → (s .seq < 4_294_967_295) × (s .seq - s .remoteAcked < ceiling)
+pub goes-room : (p : Bytes) (s : Sender) → goes p s ≡ true → s .seq - s .remoteAcked < ceiling
 unfolding goes
 goes-room p s q =
-    let z = and-right (leb (s .inflight + length p) (s .cwnd)) (near && fits) q in
-    (ltb-true (s .seq) 4_294_967_295 (and-right near fits z), ltb-true (s .seq - s .remoteAcked) ceiling (and-left near fits z))
+    ltb-true (s .seq - s .remoteAcked) ceiling (and-left near fits (and-right (leb (s .inflight + length p) (s .cwnd)) (near && fits) q))
   where
     near : Bool
     near = ltb (s .seq - s .remoteAcked) ceiling
@@ -59,50 +58,50 @@ goes-room p s q =
     fits : Bool
     fits = ltb (s .seq) 4_294_967_295
 
-resting-write : (k : ℕ) (bytes : Bytes) (e : End) → Resting e → Resting (writeLoop k bytes e .end)
+resting-write : {more : Bool} (k : ℕ) (bytes : Bytes) (e : End) → Resting more e → Resting more (writeLoop k bytes e .end)
 unfolding writeLoop
 resting-write zero bytes e r = r
-resting-write (suc k) bytes e r =
-    by-test (λ (w : Written). Resting (w .end)) (not (isEmpty bytes) && goes (piece bytes) (e .sender))
+resting-write {more} (suc k) bytes e r =
+    by-test (λ (w : Written). Resting more (w .end)) (not (isEmpty bytes) && goes (piece bytes) (e .sender))
     (let w = writeLoop k (drop 1_380 bytes) (sendDataPacket (piece bytes) e) in
     record { count = length (piece bytes) + w .count; end = w .end })
     (record { count = 0; end = e })
     (λ q. resting-write k (drop 1_380 bytes) (sendDataPacket (piece bytes) e) (sent q)) (λ q. r)
   where
-    sent : (not (isEmpty bytes) && goes (piece bytes) (e .sender)) ≡ true → Resting (sendDataPacket (piece bytes) e)
+    sent : (not (isEmpty bytes) && goes (piece bytes) (e .sender)) ≡ true → Resting more (sendDataPacket (piece bytes) e)
     sent q =
         let l1 = some-length bytes (not-true (isEmpty bytes) (and-left (not (isEmpty bytes)) (goes (piece bytes) (e .sender)) q)) in
         let l2 : length (piece bytes) ≤ 1_380 = rw length-take (omega arith) in
-        let (t, w) = goes-room (piece bytes) (e .sender) (and-right (not (isEmpty bytes)) (goes (piece bytes) (e .sender)) q) in
+        let w = goes-room (piece bytes) (e .sender) (and-right (not (isEmpty bytes)) (goes (piece bytes) (e .sender)) q) in
         record {
-          facts = facts-sent e (piece bytes) (r .facts) l1 l2 t w;
+          facts = facts-sent e (piece bytes) (r .facts) (r .rest) l1 l2 w;
           none-left = r .none-left;
-          rest = rest-sent e (piece bytes) (r .facts) l1 l2 t w (r .rest);
+          rest = rest-sent e (piece bytes) (r .facts) (r .rest) l1 l2 w;
         }
 
-pub write-keeps : (bytes : Bytes) (e : End) → Invariant e → Invariant ((write bytes e) .end)
+pub write-keeps : {more : Bool} (bytes : Bytes) (e : End) → InvariantWith more e → InvariantWith more ((write bytes e) .end)
 unfolding writeRefusal write
-write-keeps bytes e g =
-    by-gate (λ (a : Answer). Invariant (a .end)) (writeRefusal bytes e) e (written bytes (writeLoop (length bytes) bytes e)) (λ why. g)
+write-keeps {more} bytes e g =
+    by-gate (λ (a : Answer). InvariantWith more (a .end)) (writeRefusal bytes e) e (written bytes (writeLoop (length bytes) bytes e)) (λ why. g)
     (λ z. invariant-of (writeLoop (length bytes) bytes e .end) (resting-write (length bytes) bytes e (resting-of e g (clear (writeTests bytes e) z 1))))
 
 -- a state packet, and ending
 
-pub resting-state : (e : End) → states (e .queue .entries) ≤ 62 → Resting e → Resting (sendStatePacket e)
+pub resting-state : {more : Bool} (e : End) → states (e .queue .entries) ≤ 62 → Resting more e → Resting more (sendStatePacket e)
 resting-state e l r = record { facts = facts-state e (r .facts); none-left = r .none-left; rest = rest-state e (r .facts) l (r .rest) }
 
-pub facts-terminate : (why : UdxError) (e : End) → Facts e → Facts (terminate why e)
+pub facts-terminate : {more : Bool} (why : UdxError) (e : End) → FactsWith more e → FactsWith more (terminate why e)
 facts-terminate why e g = facts-state (withEnding (failed why (e .ending)) e) g
 
-pub resting-terminate : (why : UdxError) (e : End) → states (e .queue .entries) ≤ 62 → Resting e → Resting (terminate why e)
+pub resting-terminate : {more : Bool} (why : UdxError) (e : End) → states (e .queue .entries) ≤ 62 → Resting more e → Resting more (terminate why e)
 resting-terminate why e l r = resting-state (withEnding (failed why (e .ending)) e) l r
 
 -- close
 
-pub close-keeps : (e : End) → Invariant e → Invariant ((close e) .end)
+pub close-keeps : {more : Bool} (e : End) → InvariantWith more e → InvariantWith more ((close e) .end)
 unfolding closeRefusal close
-close-keeps e g =
-    by-gate (λ (a : Answer). Invariant (a .end)) (closeRefusal e) e (answered Ready (terminate error.ConnectionReset e)) (λ why. g)
+close-keeps {more} e g =
+    by-gate (λ (a : Answer). InvariantWith more (a .end)) (closeRefusal e) e (answered Ready (terminate error.ConnectionReset e)) (λ why. g)
     (λ z.
     let l = leb-false 63 (states (e .queue .entries)) (clear (closeTests e) z 3) in
     invariant-of (terminate error.ConnectionReset e) (resting-terminate error.ConnectionReset e (omega arith) (resting-of e g (clear (closeTests e) z 2))))

@@ -1,28 +1,30 @@
 -- The steps that send keep the facts of one end: a state packet is queued, a data packet is sent; and so do another clock, window
 -- or estimate. Most of the proof is what a step does to the number of queue entries of a packet. Assumes nothing.
-use Prim.Native.Nat.{ℕ, suc, _+_, _-_, _%_, _^_, _≤_, _<_}
+use Prim.Native.Nat.{ℕ, suc, _+_, _-_, _%_, _^_, _≤_, _<_, zero-le}
 use native.Mathlib.Nat.{le-refl}
 use native.Mathlib.Omega.{arith}
 use mathlib.Core.Path.{_≡_, refl, sym, ap, _∙_}
 use mathlib.Core.Logic.{_≢_, _⊎_, inl, inr}
 use mathlib.Core.List.{List, [], _∷_, _++_, append-nil}
 use mathlib.Core.Option.{Option, none, some}
-use mathlib.Core.Bool.{Bool, true, false, cond, true≢false}
+use mathlib.Core.Bool.{Bool, true, false, cond, not, true≢false}
 use lib.Dec.{eqb}
 use borrow.Author.Tests.{eq-eqb, ne-eqb}
 use lib.ListN.{length, getD}
 use Rattle.rtt.specs.Estimate.{InRange}
 use Rattle.model.specs.Lists.{Bytes}
-use Rattle.model.specs.Slots.{Slots, Numbered, ceiling, get}
+use Rattle.model.specs.Slots.{Numbered, ceiling, get}
 use Rattle.model.specs.Stream.{Packet, Entry, state, packet, Timing, End, withSender, Clocks, withTiming, withClocks}
-use Rattle.model.specs.Rules.{inflightOf, oneOf, payloadOf, states, numbers}
+use Rattle.model.specs.Rules.{inflightOf, oneOf, payloadOf, absent, distinct, states, numbers}
 use Rattle.model.specs.Sending.{isSet, stateType, createHeader, createPacket, newMarks, countSent, countState, sendStatePacket, sendDataPacket}
+use Rattle.model.specs.RulesKept.{EntryKept}
 use Rattle.model.proofs.Lists.{All, all-append, all-map, by-test}
 use Rattle.model.proofs.Slots.{apart, no-some, some-inj, insert-length, insert-same, insert-cases}
 use Rattle.model.proofs.SlotSums.{slots-map, slots-insert, sum-new}
 use Rattle.model.proofs.Wire.{packet-length}
 use Rattle.model.proofs.Ranges.{InWindow}
-use Rattle.model.proofs.Invariant.{count, StoredFacts, QueuedOnce, EntryFacts, Ascending, StoredIn, EntryIn, RestIn, Facts}
+use Rattle.model.proofs.Gate.{and-left, and-right, and-true}
+use Rattle.model.proofs.Invariant.{count, Spare, QueuedOnce, Between, StoredIn, RestIn, FactsWith}
 
 -- counting in the queue
 
@@ -46,11 +48,11 @@ pub count-self : (n l : ℕ) → count n (packet n l ∷ []) ≡ 1
 count-self n l = rw (eq-eqb n n refl) refl
 
 -- a number from seq on is not queued
-count-new : (n seq : ℕ) (outgoing : Slots Packet) (q : List Entry) → seq ≤ n → All (EntryFacts seq outgoing) q → count n q ≡ 0
-count-new n seq outgoing [] l a = refl
-count-new n seq outgoing (state b ∷ q) l a = count-new n seq outgoing q l (a .1)
-count-new n seq outgoing (packet m k ∷ q) l a =
-    let u = a .0 .0 in rw (ne-eqb n m (λ z. absurd (omega arith))) (count-new n seq outgoing q l (a .1))
+count-new : (n a seq : ℕ) (q : List Entry) → seq ≤ n → Between a seq (numbers q) → count n q ≡ 0
+count-new n a seq [] l k = refl
+count-new n a seq (state b ∷ q) l k = count-new n a seq q l k
+count-new n a seq (packet m i ∷ q) l k =
+    let u = k .0 .1 in rw (ne-eqb n m (λ z. absurd (omega arith))) (count-new n a seq q l (k .1))
 
 pub states-append : (q r : List Entry) → states (q ++ r) ≡ states q + states r
 states-append [] r = omega arith
@@ -62,69 +64,71 @@ numbers-append [] r = refl
 numbers-append (state b ∷ q) r = numbers-append q r
 numbers-append (packet n l ∷ q) r = ap (λ (z : List ℕ). n ∷ z) (numbers-append q r)
 
-ascending-last : (a b : ℕ) (ns : List ℕ) → Ascending a b ns → Ascending a (suc b) (ns ++ (b ∷ []))
-ascending-last a b [] h = (h, le-refl _)
-ascending-last a b (n ∷ ns) h = (h .0, ascending-last (suc n) b ns (h .1))
+absent-last : (n b : ℕ) (ns : List ℕ) → n ≢ b → absent n ns ≡ true → absent n (ns ++ (b ∷ [])) ≡ true
+absent-last n b [] ne h = rw (ne-eqb n b ne) refl
+absent-last n b (m ∷ ns) ne h =
+    rw (and-left (not (eqb n m)) (absent n ns) h) (absent-last n b ns ne (and-right (not (eqb n m)) (absent n ns) h))
+
+-- a number past distinct ones is one more
+distinct-last : (a b : ℕ) (ns : List ℕ) → Between a b ns → distinct ns ≡ true → distinct (ns ++ (b ∷ [])) ≡ true
+distinct-last a b [] k h = refl
+distinct-last a b (n ∷ ns) k h =
+    let u = k .0 .1 in
+    and-true (absent-last n b ns (λ z. absurd (omega arith)) (and-left (absent n ns) (distinct ns) h))
+    (distinct-last a b ns (k .1) (and-right (absent n ns) (distinct ns) h))
 
 -- with no more entries a packet keeps its facts
 
-pub stored-fewer : {a b c : ℕ} {q r : List Entry} {n : ℕ} {p : Packet} → count n r ≤ count n q → StoredFacts a b c q n p → StoredFacts a b c r n p
-stored-fewer l s =
-    let u = s .transmits in
-    record {
-      from = s .from;
-      below = s .below;
-      least = s .least;
-      most = s .most;
-      transmits = omega arith;
-      waits = λ z. (let v = s .waits z in omega arith);
-      sent = s .sent;
-    }
+pub spare-fewer : {q r : List Entry} {n : ℕ} {p : Packet} → count n r ≤ count n q → Spare q n p → Spare r n p
+spare-fewer l s = let u = s .entries in record { entries = omega arith; waits = λ z. (let v = s .waits z in omega arith) }
 
 once-fewer : {q r : List Entry} {n : ℕ} {p : Packet} → count n r ≤ count n q → QueuedOnce q n p → QueuedOnce r n p
 once-fewer l s = record { once = λ k. (let (u, v, w) = s .once (omega arith) in (omega arith, v, w)) }
 
 -- a state packet is queued
 
-module _ (e : End) (g : Facts e) where
+module _ {more : Bool} (e : End) (g : FactsWith more e) where
   stateBytes : Bytes
   stateBytes = createPacket (stateType (isSet (e .ending .error))) [] e
 
   state-count : (n : ℕ) → count n (e .queue .entries ++ (state stateBytes ∷ [])) ≤ count n (e .queue .entries)
   state-count n = let u = count-append n (e .queue .entries) (state stateBytes ∷ []) in omega arith
 
-  pub facts-state : Facts (sendStatePacket e)
+  pub facts-state : FactsWith more (sendStatePacket e)
   unfolding stateBytes countState
   facts-state =
       record {
         numbers = g .numbers;
         slots = g .slots;
-        stored =
-            slots-map (StoredIn e) (StoredIn (sendStatePacket e)) (e .sender .outgoing) (λ n p s. stored-fewer (state-count n) s) (g .stored);
+        stored = g .stored;
+        spare = λ y.
+            slots-map (Spare (e .queue .entries)) (Spare (e .queue .entries ++ (state stateBytes ∷ []))) (e .sender .outgoing)
+            (λ n p s. spare-fewer (state-count n) s) (g .spare y);
         receiver = g .receiver;
         sums = g .sums;
         ranges = g .ranges;
         segments = g .segments;
         entries =
-            all-append (EntryIn e) (e .queue .entries) (state stateBytes ∷ []) (g .entries)
+            all-append (EntryKept (e .sender .outgoing)) (e .queue .entries) (state stateBytes ∷ []) (g .entries)
             (packet-length (createHeader (stateType (isSet (e .ending .error))) e) [], tt);
       }
 
-  pub rest-state : states (e .queue .entries) ≤ 62 → RestIn e → RestIn (sendStatePacket e)
+  pub rest-state : states (e .queue .entries) ≤ 62 → RestIn more e → RestIn more (sendStatePacket e)
   unfolding stateBytes
   rest-state l r =
       record {
-        ascending = rw numbers-append (rw (append-nil (numbers (e .queue .entries))) (r .ascending));
+        once = rw numbers-append (rw (append-nil (numbers (e .queue .entries))) (r .once));
+        known = rw numbers-append (rw (append-nil (numbers (e .queue .entries))) (r .known));
         states = (let u = states-append (e .queue .entries) (state stateBytes ∷ []) in omega arith);
-        queued =
+        queued = λ y.
             slots-map (QueuedOnce (e .queue .entries)) (QueuedOnce (e .queue .entries ++ (state stateBytes ∷ []))) (e .sender .outgoing)
-            (λ n p s. once-fewer (state-count n) s) (r .queued);
+            (λ n p s. once-fewer (state-count n) s) (r .queued y);
       }
 
 -- a data packet is sent
 
-module _ (e : End) (p : Bytes) (g : Facts e) (l1 : 1 ≤ length p) (l2 : length p ≤ 1_380)
-    (t : e .sender .seq < 4_294_967_295) (w : e .sender .seq - e .sender .remoteAcked < ceiling) where
+module _ {more : Bool} (e : End) (p : Bytes) (g : FactsWith more e) (r : RestIn more e) (l1 : 1 ≤ length p) (l2 : length p ≤ 1_380)
+    (w : e .sender .seq - e .sender .remoteAcked < ceiling) where
   new : Packet
   new = record { bytes = createPacket 1 p e; marks = newMarks }
 
@@ -159,19 +163,26 @@ module _ (e : End) (p : Bytes) (g : Facts e) (l1 : 1 ≤ length p) (l2 : length 
   own-count =
       let u = count-append (e .sender .seq) (e .queue .entries) (packet (e .sender .seq) (20 + length p) ∷ []) in
       let v = count-self (e .sender .seq) (20 + length p) in
-      let y = count-new (e .sender .seq) (e .sender .seq) (e .sender .outgoing) (e .queue .entries) (le-refl _) (g .entries) in
+      let y = count-new (e .sender .seq) (e .sender .remoteAcked) (e .sender .seq) (e .queue .entries) (le-refl _) (r .known) in
       omega arith
 
-  older : (x : Entry) → EntryIn e x → EntryIn (sendDataPacket p e) x
+  -- an entry is of an older packet
+  older : (q : List Entry) → Between (e .sender .remoteAcked) (e .sender .seq) (numbers q) → All (EntryKept (e .sender .outgoing)) q
+      → All (EntryKept (sendDataPacket p e .sender .outgoing)) q
   unfolding new
-  older (state b) h = h
-  older (packet m l) (a, b, c, d) = (omega arith, b, c, λ q z. by q (insert-cases (e .sender .outgoing) (e .sender .seq) m new q (g .slots) z))
+  older [] k h = tt
+  older (state b ∷ q) k h = (h .0, older q k (h .1))
+  older (packet m l ∷ q) k h =
+      let (a, b, c) = h .0 in
+      ((a, b, λ x z. by c x (insert-cases (e .sender .outgoing) (e .sender .seq) m new x (g .slots) z)), older q (k .1) (h .1))
     where
-      by : (q : Packet) → ((m ≡ e .sender .seq) × (new ≡ q)) ⊎ ((m ≢ e .sender .seq) × (get (e .sender .outgoing) m ≡ some q)) → l ≡ length (q .bytes)
-      by q (inl (u, v)) = absurd (omega arith)
-      by q (inr (u, v)) = d q v
+      by : ((x : Packet) → get (e .sender .outgoing) m ≡ some x → l ≡ length (x .bytes)) → (x : Packet)
+          → ((m ≡ e .sender .seq) × (new ≡ x)) ⊎ ((m ≢ e .sender .seq) × (get (e .sender .outgoing) m ≡ some x))
+          → l ≡ length (x .bytes)
+      by c x (inl (u, v)) = let d = k .0 .1 in absurd (omega arith)
+      by c x (inr (u, v)) = c x v
 
-  pub facts-sent : Facts (sendDataPacket p e)
+  pub facts-sent : FactsWith more (sendDataPacket p e)
   unfolding countSent new longer
   facts-sent =
       let n = g .numbers in
@@ -182,7 +193,6 @@ module _ (e : End) (p : Bytes) (g : Facts e) (l1 : 1 ≤ length p) (l2 : length 
             record {
               acked-seq = (let u = n .acked-seq in omega arith);
               seq-near = omega arith;
-              seq-fits = t;
               largest-seq = (let u = n .largest-seq in omega arith);
             };
         slots = insert-length (e .sender .outgoing) (e .sender .seq) new ∙ g .slots;
@@ -191,19 +201,23 @@ module _ (e : End) (p : Bytes) (g : Facts e) (l1 : 1 ≤ length p) (l2 : length 
             (slots-map (StoredIn e) (StoredIn (sendDataPacket p e)) (e .sender .outgoing)
             (λ m q s.
             let h = s .below in
-            stored-fewer {q = e .queue .entries} (older-count m (s .below))
-            (record { from = s .from; below = omega arith; least = s .least; most = s .most; transmits = s .transmits; waits = s .waits; sent = s .sent }))
+            record { from = s .from; below = omega arith; least = s .least; most = s .most; transmits = s .transmits; sent = s .sent })
             (g .stored))
-            (let c = own-count in
-            record {
+            (record {
               from = n .acked-seq;
               below = le-refl _;
               least = omega arith;
               most = omega arith;
-              transmits = omega arith;
-              waits = λ z. absurd (true≢false (sym z));
+              transmits = zero-le;
               sent = λ t z. absurd (no-some refl z);
             });
+        spare = λ y.
+            slots-insert (Spare longer) (e .sender .outgoing) (e .sender .seq) new (g .slots)
+            (λ i x z.
+            let (u, v) = g .spare y i x z in
+            let (a, b) = g .stored i x z in
+            (u, spare-fewer {q = e .queue .entries} (older-count (x .number) (b .below)) v))
+            (let c = own-count in record { entries = omega arith; waits = λ z. absurd (true≢false (sym z)) });
         receiver = g .receiver;
         sums =
             record {
@@ -214,26 +228,31 @@ module _ (e : End) (p : Bytes) (g : Facts e) (l1 : 1 ≤ length p) (l2 : length 
         ranges = g .ranges;
         segments = g .segments;
         entries =
-            all-append (EntryIn (sendDataPacket p e)) (e .queue .entries)
-            (packet (e .sender .seq) (20 + length p) ∷ []) (all-map older (e .queue .entries) (g .entries))
-            ((le-refl _, omega arith, omega arith, λ q z. sym nl ∙ ap (λ (x : Packet). length (x .bytes)) (some-inj (insert-same (e .sender .outgoing) (e .sender .seq) new (g .slots)) z)), tt);
+            all-append (EntryKept (sendDataPacket p e .sender .outgoing)) (e .queue .entries)
+            (packet (e .sender .seq) (20 + length p) ∷ []) (older (e .queue .entries) (r .known) (g .entries))
+            ((omega arith, omega arith, λ q z. sym nl ∙ ap (λ (x : Packet). length (x .bytes)) (some-inj (insert-same (e .sender .outgoing) (e .sender .seq) new (g .slots)) z)), tt);
       }
 
-  pub rest-sent : RestIn e → RestIn (sendDataPacket p e)
+  pub rest-sent : RestIn more (sendDataPacket p e)
   unfolding new longer
-  rest-sent r =
+  rest-sent =
+      let n = g .numbers .acked-seq in
       record {
-        ascending = rw numbers-append (ascending-last (e .sender .remoteAcked) (e .sender .seq) (numbers (e .queue .entries)) (r .ascending));
+        once = rw numbers-append (distinct-last (e .sender .remoteAcked) (e .sender .seq) (numbers (e .queue .entries)) (r .known) (r .once));
+        known =
+            rw numbers-append
+            (all-append (λ m. (e .sender .remoteAcked ≤ m) × (m < suc (e .sender .seq))) (numbers (e .queue .entries)) (e .sender .seq ∷ [])
+            (all-map (λ m k. let (u, v) = k in (u, omega arith)) (numbers (e .queue .entries)) (r .known)) ((n, le-refl _), tt));
         states = (let u = states-append (e .queue .entries) (packet (e .sender .seq) (20 + length p) ∷ []) in let v = r .states in omega arith);
-        queued =
+        queued = λ y.
             slots-insert (QueuedOnce longer) (e .sender .outgoing) (e .sender .seq) new (g .slots)
-            (λ i x z. let (u, v) = r .queued i x z in let (a, b) = g .stored i x z in (u, once-fewer {q = e .queue .entries} (older-count (x .number) (b .below)) v))
+            (λ i x z. let (u, v) = r .queued y i x z in let (a, b) = g .stored i x z in (u, once-fewer {q = e .queue .entries} (older-count (x .number) (b .below)) v))
             (record { once = λ z. (let c = own-count in omega arith, refl, refl) });
       }
 
 -- a clock, a window, an estimate
 
-pub facts-clocks : (e : End) (c : Clocks) → e .clocks .last ≤ c .last → c .drive ≤ c .last → c .last < 2 ^ 60 → Facts e → Facts (withClocks c e)
+pub facts-clocks : {more : Bool} (e : End) (c : Clocks) → e .clocks .last ≤ c .last → c .drive ≤ c .last → c .last < 2 ^ 60 → FactsWith more e → FactsWith more (withClocks c e)
 facts-clocks e c l d y g =
     record {
       numbers = g .numbers;
@@ -247,10 +266,10 @@ facts-clocks e c l d y g =
             least = s .least;
             most = s .most;
             transmits = s .transmits;
-            waits = s .waits;
             sent = λ t z. (let u = s .sent t z in omega arith);
           })
           (g .stored);
+      spare = g .spare;
       receiver = g .receiver;
       sums = g .sums;
       ranges = record { estimate = g .ranges .estimate; window = g .ranges .window; drive-last = d; last-fits = y };
@@ -259,23 +278,18 @@ facts-clocks e c l d y g =
     }
 
 -- another largest ack and window
-pub facts-window : (e : End) (largestAck cwnd : ℕ) → largestAck ≤ e .sender .seq → InWindow cwnd → Facts e
-    → Facts
+pub facts-window : {more : Bool} (e : End) (largestAck cwnd : ℕ) → largestAck ≤ e .sender .seq → InWindow cwnd → FactsWith more e
+    → FactsWith more
     (withSender
     (record { seq = e .sender .seq; remoteAcked = e .sender .remoteAcked; largestAck = largestAck; inflight = e .sender .inflight; cwnd = cwnd; outgoing = e .sender .outgoing })
     e)
 facts-window e largestAck cwnd l w g =
     let n = g .numbers in
     record {
-      numbers =
-          record {
-            acked-seq = n .acked-seq;
-            seq-near = n .seq-near;
-            seq-fits = n .seq-fits;
-            largest-seq = l;
-          };
+      numbers = record { acked-seq = n .acked-seq; seq-near = n .seq-near; largest-seq = l };
       slots = g .slots;
       stored = g .stored;
+      spare = g .spare;
       receiver = g .receiver;
       sums = g .sums;
       ranges = record { estimate = g .ranges .estimate; window = w; drive-last = g .ranges .drive-last; last-fits = g .ranges .last-fits };
@@ -283,12 +297,13 @@ facts-window e largestAck cwnd l w g =
       entries = g .entries;
     }
 
-pub facts-timing : (e : End) (t : Timing) → InRange (t .rtt) → Facts e → Facts (withTiming t e)
+pub facts-timing : {more : Bool} (e : End) (t : Timing) → InRange (t .rtt) → FactsWith more e → FactsWith more (withTiming t e)
 facts-timing e t k g =
     record {
       numbers = g .numbers;
       slots = g .slots;
       stored = g .stored;
+      spare = g .spare;
       receiver = g .receiver;
       sums = g .sums;
       ranges = record { estimate = k; window = g .ranges .window; drive-last = g .ranges .drive-last; last-fits = g .ranges .last-fits };

@@ -6,7 +6,7 @@ use native.Mathlib.Omega.{arith}
 use mathlib.Core.Path.{_≡_, refl, _∙_}
 use mathlib.Core.List.{List, [], _∷_, _++_}
 use mathlib.Core.Option.{Option, none, some}
-use mathlib.Core.Bool.{cond}
+use mathlib.Core.Bool.{Bool, true, cond}
 use lib.Dec.{ltb}
 use borrow.Author.Tests.{ltb-true}
 use lib.ListN.{length, drop, length-drop}
@@ -19,30 +19,32 @@ use Rattle.model.specs.Driving.{takenMarks, remarked, withEntries, batch
 use Rattle.model.specs.Answers.{Answer, answered}
 use Rattle.model.proofs.Lists.{by-test}
 use Rattle.model.proofs.SlotSums.{SlotsOk, slots-map}
-use Rattle.model.proofs.Invariant.{QueuedOnce, AtRest, StoredIn, Facts, ToTake, Left, atRest, toTake, Invariant}
+use Rattle.model.proofs.Invariant.{QueuedOnce, AtRest, StoredIn, FactsWith, Facts, ToTake, Left, atRest, toTake, Invariant}
 use Rattle.model.proofs.Gate.{by-gate}
 use Rattle.model.proofs.InvariantMarks.{facts-taken, facts-popped}
 
 -- what is left to take
 
 -- an empty queue is at rest
-rest-empty : (remoteAcked seq : ℕ) (outgoing : Slots Packet) (q : List Entry) → remoteAcked ≤ seq → SlotsOk (λ n p. Unit {0}) outgoing → length q ≡ 0 → AtRest remoteAcked seq outgoing q
-rest-empty remoteAcked seq outgoing [] l s z =
+rest-empty : (more : Bool) (remoteAcked seq : ℕ) (outgoing : Slots Packet) (q : List Entry) → SlotsOk (λ n p. Unit {0}) outgoing → length q ≡ 0
+    → AtRest more remoteAcked seq outgoing q
+rest-empty more remoteAcked seq outgoing [] s z =
     record {
-      ascending = l;
+      once = refl;
+      known = tt;
       states = zero-le;
-      queued = slots-map (λ n p. Unit {0}) (QueuedOnce []) outgoing (λ n p u. record { once = λ y. absurd (omega arith) }) s;
+      queued = λ y. slots-map (λ n p. Unit {0}) (QueuedOnce []) outgoing (λ n p u. record { once = λ y. absurd (omega arith) }) s;
     }
-rest-empty remoteAcked seq outgoing (x ∷ q) l s z = absurd (omega arith)
+rest-empty more remoteAcked seq outgoing (x ∷ q) s z = absurd (omega arith)
 
 -- the whole queue is left to take, or it is empty
-pub left-all : (e : End) → Facts e → e .queue .left ≡ length (e .queue .entries) → ToTake (e .queue .entries) → Left e
-left-all e g z t = go (e .queue .left) refl
+pub left-all : {more : Bool} (e : End) → FactsWith more e → e .queue .left ≡ length (e .queue .entries) → ToTake (e .queue .entries) → Left more e
+left-all {more} e g z t = go (e .queue .left) refl
   where
-    go : (n : ℕ) → e .queue .left ≡ n → Left e
+    go : (n : ℕ) → e .queue .left ≡ n → Left more e
     go zero y =
         atRest y
-        (rest-empty (e .sender .remoteAcked) (e .sender .seq) (e .sender .outgoing) (e .queue .entries) (g .numbers .acked-seq)
+        (rest-empty more (e .sender .remoteAcked) (e .sender .seq) (e .sender .outgoing) (e .queue .entries)
         (slots-map (StoredIn e) (λ n p. Unit {0}) (e .sender .outgoing) (λ n p s. tt) (g .stored))
         (omega arith))
     go (suc n) y = toTake (omega arith) z t
@@ -101,7 +103,7 @@ take-keeps room e g =
     t : Taken
     t = takeLoop (batch e) (e .queue .entries) e
 
-    some-left : 0 < e .queue .left → Left e → Invariant (takenFrom (batch e) (t .end))
+    some-left : 0 < e .queue .left → Left true e → Invariant (takenFrom (batch e) (t .end))
     some-left p (atRest a h) = absurd (omega arith)
     some-left p (toTake p′ a h) =
         let r = facts-takes (batch e) (e .queue .entries) e (g .facts) in
