@@ -18,6 +18,7 @@ pub mod InvariantDrive
 pub mod InvariantDeliver
 pub mod InvariantCalls
 pub mod NeverBroken
+pub mod RulesStay
 pub mod Endings
 pub mod Line
 pub mod LineReceiver
