@@ -24,7 +24,8 @@ use Rattle.model.specs.Rules.{every, rules}
 use Rattle.model.specs.Sending.{writeTests, writeRefusal, writeLoop, written, write, closeTests, closeRefusal, close, terminate}
 use Rattle.model.specs.Receiving.{deliverTests, deliverRefusal, handleIncoming, deliver, readNext, readOutcome, readAnswer, readTests, readRefusal, read}
 use Rattle.model.specs.Driving.{driveTests, driveRefusal, driveClock, drained, ended, pollDrive, drive, batch, takeLoop, takeTests, takeRefusal, takeAnswer, take}
-use Rattle.model.specs.Calls.{Call, writeCall, deliverCall, driveCall, takeCall, readCall, closeCall, answer, after, NeverBroken}
+use Rattle.model.specs.Calls.{Call, writeCall, deliverCall, driveCall, takeCall, readCall, closeCall, answer, after}
+use Rattle.model.specs.NeverBroken.{NeverBroken}
 use Rattle.model.proofs.Lists.{by-test}
 use Rattle.model.proofs.Slots.{no-some, some-inj}
 use Rattle.model.proofs.Gate.{noTest}

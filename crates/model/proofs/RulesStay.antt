@@ -12,7 +12,8 @@ use Rattle.model.specs.Answers.{gate}
 use Rattle.model.specs.Rules.{rules}
 use Rattle.model.specs.Receiving.{readLoop, readNext, readRefusal, read}
 use Rattle.model.specs.Driving.{sameLength, batch, takeEntry, takeLoop, takeRefusal, take}
-use Rattle.model.specs.Calls.{writeCall, deliverCall, driveCall, takeCall, readCall, closeCall, HasSlots, RulesStay, RulesBreak}
+use Rattle.model.specs.Calls.{writeCall, deliverCall, driveCall, takeCall, readCall, closeCall}
+use Rattle.model.specs.NeverBroken.{HasSlots, RulesStay, RulesBreak}
 use Rattle.model.proofs.Invariant.{InvariantWith, kept-rules, rules-kept}
 use Rattle.model.proofs.InvariantSend.{write-keeps, close-keeps}
 use Rattle.model.proofs.InvariantDrive.{drive-keeps}
