@@ -26,11 +26,12 @@ use Rattle.model.specs.Driving.{settleLoop, restarted, settle, due, chec
 use Rattle.model.specs.Calls.{Call, writeCall, deliverCall, driveCall, after}
 use Rattle.model.specs.TwoEnds.{Id}
 use Rattle.model.specs.Alive.{CarriedOnce}
+use Rattle.model.proofs.Lists.{not-empty}
 use Rattle.model.proofs.Gate.{gate-open, clear}
 use Rattle.model.proofs.Slots.{insert-length, insert-same, insert-none, none-length, get-none, remove-none}
 use Rattle.model.proofs.Wire.{payload-back, fields-back, header-back}
 use Rattle.model.proofs.NeverBroken.{never-broken}
-use Rattle.model.proofs.AliveWrite.{Sends, not-empty, goes-now, first-write}
+use Rattle.model.proofs.AliveWrite.{Sends, goes-now, first-write}
 
 -- what open accepts
 opens : (segments clock : ℕ) → openRefusal segments clock ≡ none → (1 ≤ segments) × (segments ≤ 10) × (clock < 2 ^ 60)

@@ -14,18 +14,16 @@ use lib.Dec.{ltb}
 use borrow.Author.Tests.{le-leb, eq-eqb, ltb-true}
 use lib.ListN.{length, getD}
 use Rattle.error.specs.declared.UdxError.the-variants as error
-use Rattle.error.specs.declared.Outcome.the-variants.{Ready, Done}
 use Rattle.model.specs.Lists.{on}
 use Rattle.model.specs.Slots.{Slots, Numbered, ceiling, get, insert, valueOf}
 use Rattle.model.specs.Stream.{Packet, Entry, packet, Ending, End, fresh}
-use Rattle.model.specs.Answers.{Answer, answered}
 use Rattle.model.specs.Rules.{sum, inflightOf}
 use Rattle.model.specs.Sending.{terminate}
-use Rattle.model.specs.Driving.{lostMarks, marked, lost, flushed, fits, settle, dueEnd, Passed, timeOutPacket, timeOutLoop, timeOutEnd, checkTimeouts, flushLoop, flush, drained, driveClock, ended, leftToTake, pollDrive, driveRefusal, drive}
+use Rattle.model.specs.Driving.{lostMarks, marked, lost, flushed, fits, settle, dueEnd, Passed, timeOutPacket, timeOutLoop, timeOutEnd, checkTimeouts, flushLoop, flush, driveClock, leftToTake, pollDrive}
 use Rattle.model.specs.Calls.{after}
 use Rattle.model.specs.Alive.{Exhausted, DueDrive}
 use Rattle.model.proofs.Lists.{by-test}
-use Rattle.model.proofs.Gate.{by-gate}
+use Rattle.model.proofs.NotDead.{polled}
 use Rattle.model.proofs.Slots.{no-some, some-inj, one-number, insert-length, insert-same, insert-other, insert-none, insert-cases}
 use Rattle.model.proofs.SlotSums.{slots-look}
 use Rattle.model.proofs.Invariant.{StoredIn, Facts}
@@ -291,17 +289,6 @@ module _ (clock : ℕ) (s : End) (d : Driving 0 s) (n : ℕ) (p : Packet) (z : g
       subst (λ (k : ℕ). List·Memᴰ (packet n k) ((flushLoop (x .sender .seq - x .sender .remoteAcked) (x .sender .remoteAcked) x) .queue .entries)) (ap length b)
       (queued (x .sender .seq - x .sender .remoteAcked) (x .sender .remoteAcked) x (g .facts) n q lo (omega arith) y (waits n q (omega arith) (omega arith) y) idle
       (λ m a c. same-passed m none (s .sender .seq - s .sender .remoteAcked) (s .sender .remoteAcked) (dueEnd clock s) (d .facts .slots) (lowest m c)))
-
--- a drive that answered ok was neither refused nor done
-polled : (clock : ℕ) (e : End) → (drive clock e) .outcome ≡ Ready → (driveRefusal clock e ≡ none) × ((drive clock e) .end ≡ pollDrive clock e)
-unfolding drive
-polled clock e = by-gate Q (driveRefusal clock e) e (cond (drained e) (answered Done (ended (driveClock clock e))) (answered Ready (pollDrive clock e)))
-    (λ why q. absurd (let y : _≡_ {A = ℕ} 0 1 = cc in omega arith))
-    (λ z. by-test Q (drained e) (answered Done (ended (driveClock clock e))) (answered Ready (pollDrive clock e))
-    (λ d q. absurd (let y : _≡_ {A = ℕ} 0 1 = cc in omega arith)) (λ d q. (z, refl)))
-  where
-    Q : Answer → Type 0
-    Q a = a .outcome ≡ Ready → (driveRefusal clock e ≡ none) × (a .end ≡ pollDrive clock e)
 
 pub due-drive : DueDrive
 unfolding pollDrive checkTimeouts passed flush

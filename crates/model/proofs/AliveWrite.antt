@@ -20,24 +20,16 @@ use Rattle.model.specs.Answers.{Answer}
 use Rattle.model.specs.Sending.{piece, goes, sendDataPacket, writeLoop, openRefusal, writeRefusal, writeOutcome, written, write}
 use Rattle.model.specs.Alive.{FreshWrite}
 use Rattle.model.proofs.Gate.{gate-open, and-true}
+use Rattle.model.proofs.NotDead.{turn}
 use Rattle.model.proofs.NeverBroken.{never-broken}
 
--- one turn of the loop
+-- a loop that does nothing
 
 none-left : (k : ℕ) (bytes : Bytes) (e : End) → length bytes ≡ 0 → (writeLoop k bytes e) .count ≡ 0
 unfolding writeLoop
 none-left zero bytes e z = refl
 none-left (suc k) [] e z = refl
 none-left (suc k) (b ∷ bytes) e z = absurd (omega arith)
-
-pub not-empty : (bytes : Bytes) → 1 ≤ length bytes → isEmpty bytes ≡ false
-not-empty [] l = absurd (omega arith)
-not-empty (b ∷ bytes) l = refl
-
-turn : (k : ℕ) (bytes : Bytes) (e : End) → 1 ≤ length bytes → goes (piece bytes) (e .sender) ≡ true
-    → (writeLoop (suc k) bytes e) .count ≡ length (piece bytes) + (writeLoop k (drop 1_380 bytes) (sendDataPacket (piece bytes) e)) .count
-unfolding writeLoop
-turn k bytes e l g = rw (not-empty bytes l, g) refl
 
 stop : (k : ℕ) (bytes : Bytes) (e : End) → goes (piece bytes) (e .sender) ≡ false → (writeLoop k bytes e) .count ≡ 0
 unfolding writeLoop

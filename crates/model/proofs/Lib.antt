@@ -29,6 +29,7 @@ pub mod LineTake
 pub mod LineRead
 pub mod LineDeliver
 pub mod TwoEnds
+pub mod NotDead
 pub mod AliveWrite
 pub mod AliveCarried
 pub mod AliveDue

@@ -1,12 +1,13 @@
 -- Lists: what holds of every element, joined sequences, and a value picked by a test. Assumes nothing.
-use Prim.Native.Nat.{ℕ, suc, _<_}
+use Prim.Native.Nat.{ℕ, suc, _≤_, _<_}
+use native.Mathlib.Omega.{arith}
 use mathlib.Core.Path.{_≡_, refl, sym, ap, _∙_, subst}
 use mathlib.Core.List.{List, [], _∷_, _++_, append-assoc, append-nil, List·Memᴰ, List·Memᴰ·cases-cons, List·Memᴰ·not-nil}
 use mathlib.Core.Logic.{_⊎_, inl, inr}
-use mathlib.Core.Bool.{Bool, true, false, cond}
+use mathlib.Core.Bool.{Bool, true, false, cond, true≢false}
 use lib.ListN.{length, take, drop, getD, take-append-drop}
 use lib.Seq.{take-suc}
-use Rattle.model.specs.Lists.{Bytes, joined}
+use Rattle.model.specs.Lists.{Bytes, joined, isEmpty}
 
 -- all elements of a list
 abbrev pub All : {A : Type 0} → (A → Type 0) → List A → Type 0
@@ -28,6 +29,15 @@ all-mem P (y ∷ ys) x a m = go (List·Memᴰ·cases-cons m) (λ k. all-mem P ys
     go : (x ≡ y) ⊎ List·Memᴰ x ys → (List·Memᴰ x ys → P x) → P x
     go (inl e) r = subst P (sym e) (a .0)
     go (inr k) r = r k
+
+-- whether a list is empty
+pub empty-nil : {A : Type 0} (xs : List A) → isEmpty xs ≡ true → xs ≡ []
+empty-nil [] e = refl
+empty-nil (x ∷ xs) e = absurd (true≢false (sym e))
+
+pub not-empty : {A : Type 0} (xs : List A) → 1 ≤ length xs → isEmpty xs ≡ false
+not-empty [] l = absurd (omega arith)
+not-empty (x ∷ xs) l = refl
 
 -- a test decides
 pub by-test {ℓ} : {A : Type 0} (Q : A → Type ℓ) (b : Bool) (x y : A) → (b ≡ true → Q x) → (b ≡ false → Q y) → Q (cond b x y)

@@ -8,7 +8,7 @@ use mathlib.Core.Path.{_≡_, refl, sym, ap, _∙_, subst}
 use mathlib.Core.Logic.{_⊎_, inl, inr}
 use mathlib.Core.List.{List, [], _∷_, _++_, append-assoc, append-nil, List·Memᴰ·not-nil}
 use mathlib.Core.Option.{Option, none, some}
-use mathlib.Core.Bool.{true, false, cond, true≢false}
+use mathlib.Core.Bool.{false, cond, true≢false}
 use lib.Dec.{ltb}
 use lib.ListN.{length, take, drop, getD, length-drop}
 use lib.Seq.{take-nil, take-append-seam}
@@ -19,7 +19,7 @@ use Rattle.model.specs.Answers.{Answer}
 use Rattle.model.specs.Receiving.{Got, rest, finished, gotNone, gotFront, gotWhole, readLoop, readNext, readAnswer, readRefusal, read}
 use Rattle.model.specs.Calls.{Call, writeCall, deliverCall, driveCall, takeCall, readCall, closeCall}
 use Rattle.model.specs.TwoEnds.{noHistory, Side, called, Ends, Command, onA, onB, step, run, Brings, Fits, OverALine, unreadLoop, unreadInOrder, Carried, Id, bothOpened, TwoEnds}
-use Rattle.model.proofs.Lists.{All, joined-split, by-test}
+use Rattle.model.proofs.Lists.{All, joined-split, empty-nil, by-test}
 use Rattle.model.proofs.Slots.{no-some, get-none, none-length}
 use Rattle.model.proofs.Gate.{gate-open}
 use Rattle.model.proofs.Wire.{payload-back}
@@ -81,10 +81,6 @@ all-getD : {A : Type 0} (P : A → Type 0) (xs : List A) (d : A) → P d → All
 all-getD P [] d z a n = z
 all-getD P (x ∷ xs) d z a zero = a .0
 all-getD P (x ∷ xs) d z a (suc n) = all-getD P xs d z (a .1) n
-
-empty-nil : (bytes : Bytes) → isEmpty bytes ≡ true → bytes ≡ []
-empty-nil [] e = refl
-empty-nil (b ∷ bytes) e = absurd (true≢false (sym e))
 
 -- where nothing is held at the read cursor a read puts nothing
 read-none : (k room : ℕ) (r : Receiver) → get (r .incoming) (r .readCursor) ≡ none → (readLoop k room r) .bytes ≡ []

@@ -16,3 +16,4 @@ pub mod Edges
 pub mod Examples
 pub mod Alive
 pub mod RulesKept
+pub mod NotDead
