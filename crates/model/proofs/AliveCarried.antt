@@ -4,17 +4,17 @@
 use Prim.Native.Nat.{ℕ, zero, suc, _+_, _^_, _≤_, _<_, min}
 use native.Mathlib.Nat.{le-refl}
 use native.Mathlib.Omega.{arith}
-use mathlib.Core.Path.{_≡_, refl, ap, ap₂, _∙_, subst}
+use mathlib.Core.Path.{_≡_, refl, sym, ap, ap₂, _∙_, subst}
 use mathlib.Core.List.{List, [], _∷_, _++_, append-nil}
 use mathlib.Core.Option.{none, some}
-use mathlib.Core.Bool.{Bool, true, false, _||_}
+use mathlib.Core.Bool.{Bool, true, false, cond, _||_}
 use lib.Dec.{ltb}
 use lib.ListN.{length, drop, drop-of-length-le}
 use lib.Seq.{take-all}
 use borrow.Author.Tests.{lt-leb, lt-ltb, le-ltb, eq-eqb, leb-false, ltb-false}
 use Rattle.error.specs.declared.Outcome.the-variants.{Ready}
 use Rattle.packet.specs.declared.header.Header.{Header}
-use Rattle.packet.specs.Header.{headerBytes, fields, hasHeader}
+use Rattle.packet.specs.Header.{headerBytes, fields, hasHeader, hasType}
 use Rattle.model.specs.Lists.{Bytes, joined}
 use Rattle.model.specs.Slots.{noSlots, get, insert, remove}
 use Rattle.model.specs.Stream.{Packet, Held, Receiver, End, fresh, withSender}
@@ -22,9 +22,9 @@ use Rattle.model.specs.Answers.{first, Answer, answered}
 use Rattle.model.specs.Rules.{rules}
 use Rattle.model.specs.Sending.{countSent, createHeader, createPacket, newMarks, piece, sendDataPacket, writeLoop, openRefusal, openTests, writeRefusal, writeOutcome, write}
 use Rattle.model.specs.Receiving.{onSack, onEnd, advance, absorb, onData, handleIncoming, deliverTests, deliverRefusal, deliver, Got, readLoop, readNext, readRefusal, readOutcome, readAnswer, finished, read}
-use Rattle.model.specs.Driving.{settleLoop, restarted, settle, due, checkTimeouts, flushLoop, flush, drained, driveRefusal, driveClock, leftToTake, noAck, pollDrive, drive, sameLength, batch, takeEntry, takeLoop, takeRefusal, takeAnswer, take}
+use Rattle.model.specs.Driving.{settleLoop, restarted, settle, due, checkTimeouts, flushLoop, flush, drained, driveRefusal, driveClock, leftToTake, noAck, pollDrive, drive, headLength, sameLength, batch, takeEntry, takeLoop, takeRefusal, segmentOf, takeAnswer, take, datagramsOf}
 use Rattle.model.specs.Calls.{Call, writeCall, deliverCall, driveCall, after}
-use Rattle.model.specs.TwoEnds.{Id}
+use Rattle.model.specs.TwoEnds.{dataNumber, Id}
 use Rattle.model.specs.Alive.{CarriedOnce}
 use Rattle.model.proofs.Lists.{not-empty}
 use Rattle.model.proofs.Gate.{gate-open, clear}
@@ -169,6 +169,13 @@ module _ (i j segments clock : ℕ) (o : openRefusal segments clock ≡ none) (b
       ∙ ap joined taken
       ∙ append-nil datagram
 
+  one-datagram : datagramsOf ((take 14_000 drove) .segment) ((take 14_000 drove) .bytes) ≡ datagram ∷ []
+  unfolding datagram headerBytes
+  one-datagram =
+      ap₂ datagramsOf
+      (ap (λ (a : Answer). a .segment) take-answer ∙ ap (λ (n : ℕ). segmentOf n (headLength (drove .queue .entries))) one-entry)
+      take-bytes
+
 -- the other end: a datagram with a header of type 1, seq 0 and ack 0 for it, and a payload
 module _ (j i segments clock : ℕ) (o : openRefusal segments clock ≡ none) (bytes : Bytes) (some-bytes : 1 ≤ length bytes) (one-piece : length bytes ≤ 1_380) (idFits : Id j) where
   other : End
@@ -258,6 +265,10 @@ module _ (j i segments clock : ℕ) (o : openRefusal segments clock ≡ none) (b
   read-bytes : (read 1_380 delivered) .bytes ≡ bytes
   read-bytes = ap (λ (a : Answer). a .bytes) read-answer ∙ ap (λ (g : Got). g .bytes) got-now ∙ append-nil bytes
 
+  read-ack : (read 1_380 delivered) .end .receiver .ack ≡ 1
+  unfolding holding
+  read-ack = ap (λ (a : Answer). a .end .receiver .ack) read-answer ∙ ap (λ (g : Got). g .receiver .ack) got-now
+
 pub carried-once : CarriedOnce
 unfolding start fresh other arriving datagram first-header delivered
 carried-once i j segmentsA segmentsB clockA clockB idA idB oA oB bytes l m =
@@ -275,3 +286,33 @@ carried-once i j segmentsA segmentsB clockA clockB idA idB oA oB bytes l m =
       ap (λ (x : Bytes). (read 1_380 ((deliver x clockB (fresh j i segmentsB clockB)) .end)) .bytes) b
           ∙ read-bytes j i segmentsB clockB oB bytes l m idB,
     )
+
+-- the batch is one datagram, which brings number 0 as DATA; after the read the receiver's ack is 1
+pub record Once (t : Answer) (r : End) : Type 0 where
+  pub one-datagram : datagramsOf (t .segment) (t .bytes) ≡ t .bytes ∷ []
+  pub first-number : dataNumber (t .bytes) ≡ 0 ∷ []
+  pub acked : r .receiver .ack ≡ 1
+
+pub once : (i j segmentsA segmentsB clockA clockB : ℕ) → Id j → openRefusal segmentsA clockA ≡ none → openRefusal segmentsB clockB ≡ none → (bytes : Bytes)
+    → 1 ≤ length bytes
+    → length bytes ≤ 1_380
+    → let t = take 14_000 ((drive clockA ((write bytes (fresh i j segmentsA clockA)) .end)) .end) in
+    Once t ((read 1_380 ((deliver (t .bytes) clockB (fresh j i segmentsB clockB)) .end)) .end)
+unfolding start fresh other arriving datagram first-header delivered
+once i j segmentsA segmentsB clockA clockB idJ oA oB bytes l m =
+    let d =
+    ap (λ (e : End). (drive clockA e) .end) (wrote-is i j segmentsA clockA oA bytes l m)
+    ∙ ap (λ (x : Answer). x .end) (drive-answer i j segmentsA clockA oA bytes l m) in
+    let b = ap (λ (e : End). (take 14_000 e) .bytes) d ∙ take-bytes i j segmentsA clockA oA bytes l m in
+    record {
+      one-datagram =
+          ap (λ (e : End). datagramsOf ((take 14_000 e) .segment) ((take 14_000 e) .bytes)) d
+          ∙ one-datagram i j segmentsA clockA oA bytes l m
+          ∙ ap (λ (x : Bytes). x ∷ []) (sym b);
+      first-number =
+          ap dataNumber b
+          ∙ ap (λ (h : Header). cond (hasType 1 (h .typ)) (h .seq ∷ []) []) (read-header j i segmentsB clockB oB bytes l m idJ);
+      acked =
+          ap (λ (x : Bytes). (read 1_380 ((deliver x clockB (fresh j i segmentsB clockB)) .end)) .end .receiver .ack) b
+          ∙ read-ack j i segmentsB clockB oB bytes l m idJ;
+    }

@@ -33,5 +33,6 @@ pub mod NotDead
 pub mod AliveWrite
 pub mod AliveCarried
 pub mod AliveDue
+pub mod Traffic
 pub mod Examples
 pub mod RulesKept

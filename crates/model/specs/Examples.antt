@@ -24,11 +24,11 @@ line o n bytes = record { outcome = o; count = n; bytes = bytes }
 abbrev lineOf : Answer → Line
 lineOf a = line (a .outcome) (a .count) (a .bytes)
 
-abbrev aaa : Bytes
+abbrev pub aaa : Bytes
 aaa = 65 ∷ 65 ∷ 65 ∷ []
 
 -- the datagram: type 1 for stream 2, seq 0, ack 0
-abbrev datagram : Bytes
+abbrev pub datagram : Bytes
 datagram = 255 ∷ 1 ∷ 1 ∷ 0 ∷ 2 ∷ 0 ∷ 0 ∷ 0 ∷ 255 ∷ 255 ∷ 255 ∷ 255 ∷ 0 ∷ 0 ∷ 0 ∷ 0 ∷ 0 ∷ 0 ∷ 0 ∷ 0 ∷ aaa
 
 -- the line of each call, with the end that it leaves handed on

@@ -17,3 +17,4 @@ pub mod Examples
 pub mod Alive
 pub mod RulesKept
 pub mod NotDead
+pub mod Traffic
