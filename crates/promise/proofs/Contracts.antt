@@ -20,4 +20,11 @@ contracts 𝓤 H A mem run =
       close = λ κs x r y. (refl, refl);
       look = λ κs x r y. (refl, refl);
       opens = λ κs x r y. (refl, refl);
+      encode = λ κs x r y. (refl, refl);
+      decode = λ κs x r y. (refl, refl);
+      next-at = λ κs x r y. (refl, refl);
+      read-from = λ κs x r y. (refl, refl);
+      new-reader = λ κs x r y. (refl, refl);
+      moved-reader = λ κs x r y. (refl, refl);
+      next-block = λ κs x r y. (refl, refl);
     }

@@ -20,4 +20,9 @@ contracts-of-c 𝓤 H A mem run =
       close = λ κs x r y. (refl, refl);
       look = λ κs x r y. (refl, refl);
       opens = λ κs x r y. (refl, refl);
+      encode = λ κs x r y. (refl, refl);
+      decode = λ κs x r y. (refl, refl);
+      layout-stream = λ κs x r y. (refl, refl);
+      layout-totals = λ κs x r y. (refl, refl);
+      layout-step = λ κs x r y. (refl, refl);
     }
