@@ -110,10 +110,10 @@ step-broken r e = broken-is (r .outcome) e
 
 -- one call: what it is on the records; what it hands back has no strange byte; and its refusal 1 is refusal 1
 
-record Done (r : FlatStep) (did : Type 0) : Type 0 where
-  does : did
-  known : isStrange (r .stream .ending) ≡ false
-  broken : r .refusal ≡ 1 → stepOf r .outcome ≡ outcome.Refused refusal.BrokenRecords
+pub record Done (r : FlatStep) (did : Type 0) : Type 0 where
+  pub does : did
+  pub known : isStrange (r .stream .ending) ≡ false
+  pub broken : r .refusal ≡ 1 → stepOf r .outcome ≡ outcome.Refused refusal.BrokenRecords
 
 module _
     (call : Stream → Totals → Lent → Step → Lent → Type 0) (s : FlatStream) (t : FlatTotals) (l : Lent) (r : FlatStep) (m : Lent)
@@ -127,7 +127,7 @@ module _
         broken = λ e. ap (λ (q : Step). q .outcome) back ∙ step-broken (c .step) (rw (c .flat) at e);
       }
 
-one : (x : Plain) (q : Request) (r : FlatStep) (m : Lent) (buf′ : Bytes) → isStrange (x .stream .ending) ≡ false → PlainDidWith x q r m buf′
+pub one : (x : Plain) (q : Request) (r : FlatStep) (m : Lent) (buf′ : Bytes) → isStrange (x .stream .ending) ≡ false → PlainDidWith x q r m buf′
     → Done r (DidWith (recordsOf x) q (stepOf r) m buf′)
 one x (toWrite bytes) r m buf′ k d = called _ (x .stream) (x .totals) (x .lent) r m (d .known k)
 one x (toDeliver datagram clock) r m buf′ k d = called _ (x .stream) (x .totals) (x .lent) r m (d .known k)
@@ -139,7 +139,7 @@ one x toClose r m buf′ k d = called _ (x .stream) (x .totals) (x .lent) r m (d
 -- an open
 
 module _ (local remote segments clock : ℕ) (l : Lent) (o : FlatStep) (h : OpenedInC local remote segments clock l o) where
-  opened-in-c : OpenedBy local remote segments clock l (openedOf o)
+  pub opened-in-c : OpenedBy local remote segments clock l (openedOf o)
   opened-in-c =
       let back = ap openedOf (h .opens .flat) ∙ opened-back (h .opens .opened) in
       record { opens = rw back (h .opens .does); ready = rw (h .ready) refl }

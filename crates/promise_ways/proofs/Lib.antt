@@ -1,3 +1,4 @@
 pub mod Contracts
 pub mod FromC
 pub mod LentTotals
+pub mod Mixed
