@@ -1,9 +1,9 @@
 -- A part that lies in its store has as many bytes as it says; each kind of part lies in its store. Assumes nothing.
 use Prim.Native.Nat.{ℕ, _+_, _*_, _%_, _≤_, _<_}
 use native.Mathlib.Omega.{arith}
-use mathlib.Core.Path.{_≡_, sym, ap, _∙_}
-use mathlib.Core.List.{List}
-use mathlib.Core.Bool.{Bool, true, false, cond}
+use mathlib.Core.Path.{_≡_, refl, sym, ap, _∙_}
+use mathlib.Core.List.{[]}
+use mathlib.Core.Bool.{cond}
 use lib.ListN.{length, take, drop, length-take, length-drop}
 use Rattle.model.specs.Lists.{Bytes}
 use Rattle.places.specs.declared.Part.{Part}
@@ -13,11 +13,12 @@ cut-length : (start k : ℕ) (store : Bytes) → start + k ≤ length store → 
 cut-length start k store h = simp (length-take, length-drop) (omega arith)
 
 module _ (outgoing headers : Bytes) where
-  pub part-of : (p q : Part) (shown : Bytes) → p ≡ q → partBytes q outgoing headers ≡ shown → q .start + q .length ≤ length (cond (q .header) headers outgoing)
+  pub part-of : (p : Part) (shown : Bytes) → partBytes p outgoing headers ≡ shown → p .start + p .length ≤ length (cond (p .header) headers outgoing)
       → PartOf shown outgoing headers p
-  part-of p q shown e b w =
-      rw e
-      (record { bytes = b; within = w; long = sym (cut-length (q .start) (q .length) (cond (q .header) headers outgoing) w) ∙ ap length b })
+  part-of p shown b w = record { bytes = b; within = w; long = sym (cut-length (p .start) (p .length) (cond (p .header) headers outgoing) w) ∙ ap length b }
+
+  pub empty-part : PartOf [] outgoing headers noPart
+  empty-part = part-of noPart [] refl (omega arith)
 
   pub header-within : (place : ℕ) → place < 64 → length headers ≡ 1_280 → headerPart place .start + headerPart place .length ≤ length headers
   header-within place h l = omega arith

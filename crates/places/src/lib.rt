@@ -2,10 +2,8 @@
 // `look` shows.
 ghost use mathlib.Core.Path.{_≡_};
 ghost use Rattle.records.specs.Seen.{QueueFormed};
-ghost use Rattle.taking.specs.Take.{Stored};
 ghost use Rattle.broken_records.specs.Broken.{lent};
-ghost use Rattle.udx.specs.Look.{shownOf};
-ghost use Rattle.places.specs.Place.{FindsPlace, PartOf, headerPart, packetPart, noPart};
+ghost use Rattle.places.specs.Place.{noPart, headerPart, packetPart, FindsPart, lookedPart};
 use batching::left_entry;
 use broken_records::broken;
 use constants::OUTGOING_SLOT;
@@ -17,53 +15,13 @@ use records::Totals;
 use records::word_count;
 use transmitting::there;
 
-// As taking's search finds it: at place `number` of the header store, or in the slot of packet `number`, with `length` bytes; 0 for none.
-pub struct Place {
-    pub state: bool,
-    pub number: u32,
-    pub length: u32,
-}
-
 // A part of a lent store.
 pub struct Part {
     // Of the header store, else of the outgoing store.
     pub header: bool,
     pub start: usize,
-    // 0 where no datagram is left to take.
+    // 0 where no datagram is left to take, and in place of refusal 1.
     pub length: usize,
-}
-
-// The first entry left to take whose packet is there: the search of `taking`.
-fn next_place(q: Queue, s: Sender, sent: &[u64; 64], queue: &[u64; 128]) -> Place
-    requires { ⌜ QueueFormed q (now queue) × Stored s (now sent) 7 ⌝ }
-    ensures { λ r. ⌜ FindsPlace q s (now (sent .entry)) (now (queue .entry)) r ⌝ }
-{
-    word_count(queue);
-    let mut n: u32 = 0;
-    while n < q.left {
-        let x = left_entry(q, queue, n);
-        if x.state {
-            return Place {
-                state: true,
-                number: q.gone,
-                length: UDX_HEADER_SIZE as u32,
-            };
-        }
-        let p = records::get_sent(sent, x.number);
-        if there(s, p, x.number) {
-            return Place {
-                state: false,
-                number: x.number,
-                length: p.length,
-            };
-        }
-        n += 1;
-    }
-    Place {
-        state: false,
-        number: 0,
-        length: 0,
-    }
 }
 
 fn no_part() -> Part
@@ -98,6 +56,29 @@ fn packet_part(n: u32, length: u32) -> Part
     }
 }
 
+// The first entry left to take whose packet is there. A state packet always is, so the search passes none, and the first one's place is
+// that of the first one queued.
+fn next_part(q: Queue, s: Sender, sent: &[u64; 64], queue: &[u64; 128]) -> Part
+    requires { ⌜ QueueFormed q (now queue) ⌝ }
+    ensures { λ r. ⌜ FindsPart q s (now (sent .entry)) (now (queue .entry)) r ⌝ }
+{
+    word_count(queue);
+    let mut n: u32 = 0;
+    while n < q.left {
+        let x = left_entry(q, queue, n);
+        if x.state {
+            return header_part(q.gone);
+        }
+        let p = records::get_sent(sent, x.number);
+        if there(s, p, x.number) {
+            return packet_part(x.number, p.length);
+        }
+        n += 1;
+    }
+    no_part()
+}
+
+// "a part of the outgoing store or of the header store, an empty part when nothing is left to take and also in place of refusal 1"
 pub fn look_place(
     s: Stream,
     t: Totals,
@@ -108,16 +89,12 @@ pub fn look_place(
     incoming: &[u8],
     headers: &[u8],
 ) -> Part
-    ensures { λ r. ⌜ PartOf (shownOf s t (lent (now (sent .entry)) (now (held .entry)) (now (queue .entry)) (now (outgoing .entry)) (now (incoming .entry)) (now (headers .entry)))) (now (outgoing .entry)) (now (headers .entry)) r ⌝ }
+    ensures { λ r. ⌜ r ≡ lookedPart s t (lent (now (sent .entry)) (now (held .entry)) (now (queue .entry)) (now (outgoing .entry)) (now (incoming .entry)) (now (headers .entry))) ⌝ }
 {
     if broken(s, t, sent, held, queue, outgoing, incoming, headers) {
         return no_part();
     }
     let q = s.queue;
     let sender = s.sender;
-    let x = next_place(q, sender, sent, queue);
-    if x.state {
-        return header_part(x.number);
-    }
-    packet_part(x.number, x.length)
+    next_part(q, sender, sent, queue)
 }

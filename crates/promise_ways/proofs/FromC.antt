@@ -30,6 +30,7 @@ use Rattle.flat.specs.Bytes.{isStrange, outcomeByte, refusalByte}
 use Rattle.flat.specs.Flat.{streamOf, totalsOf, flatStep, flatOpened}
 use Rattle.flat.proofs.RoundTrip.{comes-back}
 use Rattle.udx_c.specs.Crosses.{Called}
+use Rattle.udx_c.proofs.ShownLaws.{looks-shown}
 use Rattle.promise_ways.specs.Calls.{
   Plain,
   PlainEvent,
@@ -174,7 +175,7 @@ same-from-c local remote segments clock l o h events d =
           λ v did e.
           (let q = one last (v .request) (v .step) (v .lent) (v .buf) (r .2) did in
           same .unbroken (eventOf v) (q .does) (q .broken e));
-      shown = λ part looks. rw (same .shown) at (looks .known (r .2));
+      shown = λ part looks. rw (same .shown) at (looks-shown (last .stream) (last .totals) (last .lent) part looks (r .2));
     }
 
 -- lists of calls on two ends

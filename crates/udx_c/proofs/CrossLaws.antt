@@ -1,14 +1,9 @@
 -- A call crosses the boundary in one of two ways: refused with 1 for a byte that stands for nothing, or made on the records that the
 -- numbers stand for. Assumes nothing.
-use Prim.Native.Nat.{_≤_}
-use native.Mathlib.Omega.{arith}
-use mathlib.Core.Path.{_≡_, refl, ap, sym, _∙_}
-use mathlib.Core.Bool.{Bool, true, false, true≢false, cond}
-use lib.Dec.{eqb}
-use Rattle.model.specs.Lists.{Bytes}
-use Rattle.udx.specs.Look.{shownOf}
+use mathlib.Core.Path.{_≡_, refl, sym, _∙_}
+use mathlib.Core.Bool.{Bool, true, false, true≢false}
 use Rattle.places.specs.declared.Part.{Part}
-use Rattle.places.specs.Place.{PartOf}
+use Rattle.places.specs.Place.{lookedPart}
 use Rattle.records.specs.declared.Stream.{Stream}
 use Rattle.records.specs.declared.Totals.{Totals}
 use Rattle.records.specs.Seen.{Lent}
@@ -20,7 +15,7 @@ use Rattle.flat.specs.Bytes.{isStrange}
 use Rattle.flat.specs.Flat.{streamOf, totalsOf, flatStep, brokenStep}
 use Rattle.udx_c.specs.declared.batches.FlatPart.{FlatPart}
 use Rattle.udx_c.specs.Crosses.{Crosses, Called}
-use Rattle.udx_c.specs.Shown.{noPart, flatPart, storeOf, Looks}
+use Rattle.udx_c.specs.Shown.{noPart, flatPart, Looks}
 
 -- a test that came out both ways
 pub both : {A : Type 0} (b : Bool) → b ≡ true → b ≡ false → A
@@ -45,25 +40,6 @@ module _ (s : FlatStream) (t : FlatTotals) (l : Lent) (r : FlatPart) where
   pub refused-looks : isStrange (s .ending) ≡ true → r ≡ noPart → Looks s t l r
   refused-looks e a = record { known = λ n. both (isStrange (s .ending)) e n; strange = λ y. a }
 
-  -- a part that became numbers lies in the same store
-  same-store : (p : Part) (outgoing headers : Bytes) → storeOf (flatPart p) outgoing headers ≡ cond (p .header) headers outgoing
-  same-store p outgoing headers = go (p .header)
-    where
-      go : (b : Bool) → cond (eqb (cond b 1 0) 1) headers outgoing ≡ cond b headers outgoing
-      go true = refl
-      go false = refl
-
-  flag-low : (b : Bool) → cond b 1 0 ≤ 1
-  flag-low true = omega arith
-  flag-low false = omega arith
-
   pub placed-looks : (p : Part) (stream : Stream) (totals : Totals) → isStrange (s .ending) ≡ false → stream ≡ streamOf s → totals ≡ totalsOf t
-      → PartOf (shownOf stream totals l) (l .outgoing) (l .headers) p → r ≡ flatPart p → Looks s t l r
-  placed-looks p stream totals e hs ht shows a =
-      let store = same-store p (l .outgoing) (l .headers) in
-      record {
-        known =
-            λ y.
-            rw (a, ← hs, ← ht) (record { bytes = rw store (shows .bytes); within = rw store (shows .within); long = shows .long; flag = flag-low (p .header) });
-        strange = λ y. both (isStrange (s .ending)) y e;
-      }
+      → p ≡ lookedPart stream totals l → r ≡ flatPart p → Looks s t l r
+  placed-looks p stream totals e hs ht is a = record { known = λ y. rw (a, is, hs, ht) refl; strange = λ y. both (isStrange (s .ending)) y e }

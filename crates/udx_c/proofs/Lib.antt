@@ -1,1 +1,2 @@
 pub mod CrossLaws
+pub mod ShownLaws

@@ -1,4 +1,5 @@
--- Look for C: the part of a store by its numbers. Assumes nothing.
+-- Look for C: the part of a store by its numbers (`Looks`), and that its bytes are those that look shows (`LooksShown`, proved in
+-- proofs/ShownLaws.antt). Assumes nothing.
 use Prim.Native.Nat.{_+_, _≤_}
 use mathlib.Core.Path.{_≡_}
 use mathlib.Core.Bool.{true, false, cond}
@@ -8,6 +9,7 @@ use Rattle.model.specs.Lists.{Bytes}
 use Rattle.records.specs.Seen.{Lent}
 use Rattle.udx.specs.Look.{shownOf}
 use Rattle.places.specs.declared.Part.{Part}
+use Rattle.places.specs.Place.{lookedPart}
 use Rattle.flat.specs.declared.structs.FlatStream.{FlatStream}
 use Rattle.flat.specs.declared.structs.FlatTotals.{FlatTotals}
 use Rattle.flat.specs.Bytes.{isStrange}
@@ -19,6 +21,14 @@ noPart = record { start = 0; length = 0; header = 0 }
 
 abbrev pub flatPart : Part → FlatPart
 flatPart p = record { start = p .start; length = p .length; header = cond (p .header) 1 0 }
+
+-- 01, 'Added by design': "look, in which the next datagram .. is shown as a part of the outgoing store or of the header store, an empty
+-- part when nothing is left to take and also in place of refusal 1", which a strange byte meets too
+pub record Looks (s : FlatStream) (t : FlatTotals) (l : Lent) (r : FlatPart) : Type 0 where
+  pub known : isStrange (s .ending) ≡ false → r ≡ flatPart (lookedPart (streamOf s) (totalsOf t) l)
+  pub strange : isStrange (s .ending) ≡ true → r ≡ noPart
+
+-- its bytes
 
 -- the store that a part lies in
 abbrev pub storeOf : FlatPart → (outgoing headers : Bytes) → Bytes
@@ -35,7 +45,10 @@ pub record ShownBy (shown outgoing headers : Bytes) (p : FlatPart) : Type 0 wher
   -- 1 or 0, so that a test of any kind tells the stores apart
   pub flag : p .header ≤ 1
 
-pub record Looks (s : FlatStream) (t : FlatTotals) (l : Lent) (r : FlatPart) : Type 0 where
-  -- what stands there is what `look` shows
-  pub known : isStrange (s .ending) ≡ false → ShownBy (shownOf (streamOf s) (totalsOf t) l) (l .outgoing) (l .headers) r
-  pub strange : isStrange (s .ending) ≡ true → r ≡ noPart
+-- what stands there is what `look` shows
+abbrev pub LooksShown : Type 0
+LooksShown =
+    (s : FlatStream) (t : FlatTotals) (l : Lent) (r : FlatPart)
+    → Looks s t l r
+    → isStrange (s .ending) ≡ false
+    → ShownBy (shownOf (streamOf s) (totalsOf t) l) (l .outgoing) (l .headers) r

@@ -1,4 +1,4 @@
--- `places::next_place` meets its contract. The loop's invariant (`Searching`): the packets of the entries passed have left the store.
+-- `places::next_part` meets its contract. The loop's invariant (`Searching`): the packets of the entries passed have left the store.
 -- Assumes nothing.
 use Prim.Native.Nat.{_-_}
 use mathlib.Core.Path.{_≡_, _∙_}
@@ -6,9 +6,9 @@ use mathlib.Core.List.{[]}
 use borrow.Author.Needs.{needs}
 use Rattle.transmitting.specs.Transmit.{isThere}
 use Rattle.transmitting.proofs.TakeOne.{test-there}
-use Rattle.taking.proofs.LookNext.{Searching, starts, none-there, state-there, packet-there, packet-gone}
-use Rattle.places.proofs.next_place.Statement.{statement}
-use Rattle.places.proofs.next_place.Tie as tie
+use Rattle.places.proofs.NextPart.{Searching, starts, none-there, state-there, packet-there, packet-gone}
+use Rattle.places.proofs.next_part.Statement.{statement}
+use Rattle.places.proofs.next_part.Tie as tie
 
 abbrev Inv-loop : tie.InvT-loop
 Inv-loop q s sent queue n₀ n = Searching q s sent queue n
@@ -24,23 +24,24 @@ found c =
     test-there (a .s) (a .sent .now) [] (c .before .before .before .left-entry .result .number) (c .before .get-sent .result) (c .there .result) (c .before .get-sent .ensures) (c .there .ensures)
 
 loop-holds : tie.Need-loop-holds Inv-loop μ-loop
-loop-holds c = starts _ _ _ _ (c .before .before .pre .0) (c .before .before .pre .1) (search needs)
+loop-holds c = starts _ _ _ _ (c .before .before .pre) (search needs)
 
 left-entry-requires : tie.Need-left-entry-requires Inv-loop μ-loop
 left-entry-requires c κs = let f = c .before .before .loop .inv .formed in (c .if1 .taken, f .left, f .count)
 
 returns : tie.Need-returns Inv-loop μ-loop
 returns c =
-    let b = c .before .before in
-    state-there _ _ _ _ _ (b .before .before .loop .inv) (b .if1 .taken) (rw (c .before .left-entry .ensures) at (c .if2 .taken))
+    let d = c .before .before in
+    let b = d .before in
+    rw (c .header-part .ensures) (state-there _ _ _ _ _ (b .before .before .loop .inv) (b .if1 .taken) (rw (d .left-entry .ensures) at (c .before .if2 .taken)))
 
 returns-2 : tie.Need-returns-2 Inv-loop μ-loop
 returns-2 c =
-    let d = c .before in
+    let d = c .before .before in
     let b = d .before .before .before in
     let e = b .left-entry .ensures in
-    rw (d .before .get-sent .ensures, e)
-    (packet-there _ _ _ _ _ (b .before .before .before .loop .inv) (b .before .if1 .taken) (rw e at (d .before .before .if2 .left)) (rw e at (found d ∙ c .if3 .taken)))
+    rw (c .packet-part .ensures, d .before .get-sent .ensures, e)
+    (packet-there _ _ _ _ _ (b .before .before .before .loop .inv) (b .before .if1 .taken) (rw e at (d .before .before .if2 .left)) (rw e at (found d ∙ c .before .if3 .taken)))
 
 loop-again : tie.Need-loop-again Inv-loop μ-loop
 loop-again c =
@@ -50,10 +51,10 @@ loop-again c =
     packet-gone _ _ _ _ _ (b .before .before .before .loop .inv) (b .before .if1 .taken) (rw e at (d .before .before .if2 .left)) (rw e at (found d ∙ c .if3 .left))
 
 returns-3 : tie.Need-returns-3 Inv-loop μ-loop
-returns-3 c = none-there _ _ _ _ _ (c .before .before .loop .inv) (c .if1 .left)
+returns-3 c = rw (c .no-part .ensures) (none-there _ _ _ _ _ (c .before .before .before .loop .inv) (c .before .if1 .left))
 
-pub next-place-spec : {M : Type 1} → statement M
-next-place-spec =
+pub next-part-spec : {M : Type 1} → statement M
+next-part-spec =
     tie.close
     (tie.spec
     Inv-loop
@@ -61,12 +62,14 @@ next-place-spec =
     (λ c κs. search needs)
     loop-holds
     left-entry-requires
-    (λ c. search needs)
+    (λ c κs. search needs)
     returns
+    (λ c κs. search needs)
     (λ c κs. search needs)
     (λ c κs. search needs)
     returns-2
     (λ c. search needs)
     (λ c. search needs)
     loop-again
+    (λ c κs. search needs)
     returns-3)
