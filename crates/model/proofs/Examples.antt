@@ -1,6 +1,7 @@
 -- The examples of specs/Examples.antt, computed: every definition on their way is opened. Assumes nothing.
 use mathlib.Core.Path.{refl}
 use Rattle.packet.specs.Header.{headerBytes}
+use Rattle.packet.specs.Blocks.{blocksIn}
 use Rattle.rtt.specs.Estimate.{sampled}
 use Rattle.rtt.specs.Window.{grown, halved}
 use Rattle.model.specs.Slots.{noSlots, get, insert, remove}
@@ -13,5 +14,24 @@ use Rattle.model.specs.Driving.{settleLoop, restarted, settle, due, back
 use Rattle.model.specs.Examples.{Examples}
 
 pub examples : Examples
-unfolding headerBytes noSlots get insert remove fresh gate rules countSent countState goes writeLoop writeRefusal write closeRefusal close measured countAcked ackNumber ackNumbers ackBlocks countReceived countData onSack onEnd advance absorb onData handleIncoming deliverRefusal deliver readLoop readNext readRefusal read settleLoop restarted settle due backedOff timeOutPacket timeOutLoop checkTimeouts fits flushLoop flush anyStored drained driveRefusal pollDrive drive sameLength batch takeEntry takeLoop takeRefusal take sampled grown halved
-examples = record { session-sender = refl; session-receiver = refl; acknowledged = refl; settled-once = refl; resent-no-sample = refl; never-acked = refl; third-goes = refl; fourth-fails = refl }
+unfolding headerBytes noSlots get insert remove fresh gate rules countSent countState goes writeLoop writeRefusal write closeRefusal close measured countAcked ackNumber ackNumbers ackBlocks countReceived countData onSack onEnd advance absorb onData handleIncoming deliverRefusal deliver readLoop readNext readRefusal read settleLoop restarted settle due backedOff timeOutPacket timeOutLoop checkTimeouts fits flushLoop flush anyStored drained driveRefusal pollDrive drive sameLength batch takeEntry takeLoop takeRefusal take sampled grown halved blocksIn
+examples =
+    record {
+      session-sender = refl;
+      session-receiver = refl;
+      acknowledged = refl;
+      settled-once = refl;
+      resent-no-sample = refl;
+      never-acked = refl;
+      third-goes = refl;
+      fourth-fails = refl;
+      front-first = refl;
+      settled-by-drive = refl;
+      gap-closed = refl;
+      repeat-replaces = refl;
+      old-not-held = refl;
+      repeats-counted = refl;
+      block-ends = refl;
+      settled-entry = refl;
+      fills-window = refl;
+    }

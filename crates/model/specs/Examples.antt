@@ -1,14 +1,17 @@
 -- Examples computed over the definitions: 01's example session, a packet's whole way with its ack's way back, a packet that is
--- resent, and one that is never acknowledged. Statements; all of them are computed in proofs/Examples.antt. Assumes nothing.
+-- resent, one that is never acknowledged, and 01's traps with the other steps that are easily off by one. A wrong definition of one of
+-- these steps fails here, whatever the proofs about all runs say. Statements; all of them are computed in proofs/Examples.antt.
+-- Assumes nothing.
 use Prim.Native.Nat.{ℕ}
 use mathlib.Core.Path.{_≡_}
 use mathlib.Core.List.{List, [], _∷_}
+use lib.ListN.{length, replicate}
 use Rattle.error.specs.declared.UdxError.the-variants as error
 use Rattle.error.specs.declared.Outcome.{Outcome}
 use Rattle.error.specs.declared.Outcome.the-variants.{Ready, Waiting, Nothing}
 use Rattle.model.specs.Lists.{Bytes, on}
 use Rattle.model.specs.Slots.{get}
-use Rattle.model.specs.Stream.{End, fresh}
+use Rattle.model.specs.Stream.{packet, End, fresh}
 use Rattle.model.specs.Answers.{Answer}
 use Rattle.model.specs.Calls.{Call, writeCall, deliverCall, driveCall, takeCall, readCall, closeCall, answer, after}
 
@@ -27,9 +30,16 @@ lineOf a = line (a .outcome) (a .count) (a .bytes)
 abbrev pub aaa : Bytes
 aaa = 65 ∷ 65 ∷ 65 ∷ []
 
--- the datagram: type 1 for stream 2, seq 0, ack 0
+abbrev bcd : Bytes
+bcd = 66 ∷ 67 ∷ 68 ∷ []
+
+-- DATA for stream 2: type 1, seq n, ack 0
+abbrev dataOf : ℕ → Bytes → Bytes
+dataOf n payload = 255 ∷ 1 ∷ 1 ∷ 0 ∷ 2 ∷ 0 ∷ 0 ∷ 0 ∷ 255 ∷ 255 ∷ 255 ∷ 255 ∷ n ∷ 0 ∷ 0 ∷ 0 ∷ 0 ∷ 0 ∷ 0 ∷ 0 ∷ payload
+
+-- the example's datagram
 abbrev pub datagram : Bytes
-datagram = 255 ∷ 1 ∷ 1 ∷ 0 ∷ 2 ∷ 0 ∷ 0 ∷ 0 ∷ 255 ∷ 255 ∷ 255 ∷ 255 ∷ 0 ∷ 0 ∷ 0 ∷ 0 ∷ 0 ∷ 0 ∷ 0 ∷ 0 ∷ aaa
+datagram = dataOf 0 aaa
 
 -- the line of each call, with the end that it leaves handed on
 abbrev linesOf : List Call → End → List Line
@@ -39,6 +49,19 @@ linesOf (c ∷ cs) e = let a = answer c e in lineOf a ∷ linesOf cs (a .end)
 -- a state packet for stream 1 that acknowledges number 0
 abbrev ack : Bytes
 ack = 255 ∷ 1 ∷ 0 ∷ 0 ∷ 1 ∷ 0 ∷ 0 ∷ 0 ∷ 255 ∷ 255 ∷ 255 ∷ 255 ∷ 0 ∷ 0 ∷ 0 ∷ 0 ∷ 1 ∷ 0 ∷ 0 ∷ 0 ∷ []
+
+-- a state packet for stream 1 with one SACK block, from 1 to below 2
+abbrev sack : Bytes
+sack =
+    255 ∷ 1 ∷ 4 ∷ 0 ∷ 1 ∷ 0 ∷ 0 ∷ 0 ∷ 255 ∷ 255 ∷ 255 ∷ 255 ∷ 0 ∷ 0 ∷ 0 ∷ 0 ∷ 0 ∷ 0 ∷ 0 ∷ 0
+    ∷ 1 ∷ 0 ∷ 0 ∷ 0 ∷ 2 ∷ 0 ∷ 0 ∷ 0 ∷ 0 ∷ []
+
+-- the lengths of the stored packets 0, 1 and 2, 0 where there is none
+abbrev storedLength : End → ℕ → ℕ
+storedLength e n = on (get (e .sender .outgoing) n) 0 (λ p. length (p .bytes))
+
+abbrev storedLengths : End → List ℕ
+storedLengths e = storedLength e 0 ∷ storedLength e 1 ∷ storedLength e 2 ∷ []
 
 -- what is settled, in flight and allowed, the estimate and the totals of a sender
 abbrev numbersOf : End → List ℕ
@@ -113,3 +136,42 @@ pub record Examples : Type 0 where
       (after (taken (dueAt 1_000_000_000 (dueAt 3_000_000_000 (dueAt 5_000_000_000 [])))) (fresh 1 2 10 0)) .ending .error ≡ error.None
   pub fourth-fails :
       (after (taken (dueAt 1_000_000_000 (dueAt 3_000_000_000 (dueAt 5_000_000_000 (driveCall 7_000_000_000 ∷ []))))) (fresh 1 2 10 0)) .ending .error ≡ error.TimedOut
+  -- "a packet longer than what remains of the buffer gives its front part and ends the read"; the next read goes on there
+  pub front-first :
+      linesOf (deliverCall (dataOf 0 bcd) 5 ∷ readCall 2 ∷ readCall 2 ∷ []) (fresh 2 1 10 0)
+      ≡ line Ready 0 [] ∷ line Waiting 2 (66 ∷ 67 ∷ []) ∷ line Ready 1 (68 ∷ []) ∷ []
+  -- an ack that was delivered moves remote acked at the next drive, not before
+  pub settled-by-drive :
+      (after (taken (deliverCall ack 5 ∷ [])) (fresh 1 2 10 0)) .sender .remoteAcked
+      ∷ (after (taken (deliverCall ack 5 ∷ driveCall 5 ∷ [])) (fresh 1 2 10 0)) .sender .remoteAcked
+      ∷ []
+      ≡ 0 ∷ 1 ∷ []
+  -- "ack moves past all held in order": DATA 1 alone leaves a gap, which DATA 0 closes
+  pub gap-closed :
+      (after (deliverCall (dataOf 1 aaa) 5 ∷ []) (fresh 2 1 10 0)) .receiver .ack
+      ∷ (after (deliverCall (dataOf 0 aaa) 5 ∷ []) (fresh 2 1 10 0)) .receiver .ack
+      ∷ (after (deliverCall (dataOf 1 aaa) 5 ∷ deliverCall (dataOf 0 aaa) 5 ∷ []) (fresh 2 1 10 0)) .receiver .ack
+      ∷ []
+      ≡ 0 ∷ 1 ∷ 2 ∷ []
+  -- "a repeat replaces" at or past ack; below ack it is not held
+  pub repeat-replaces :
+      linesOf (deliverCall (dataOf 1 aaa) 5 ∷ deliverCall (dataOf 1 bcd) 5 ∷ deliverCall (dataOf 0 []) 5 ∷ readCall 8 ∷ []) (fresh 2 1 10 0)
+      ≡ line Ready 0 [] ∷ line Ready 0 [] ∷ line Ready 0 [] ∷ line Ready 3 bcd ∷ []
+  pub old-not-held :
+      linesOf (deliverCall (dataOf 0 aaa) 5 ∷ deliverCall (dataOf 0 bcd) 5 ∷ readCall 8 ∷ []) (fresh 2 1 10 0)
+      ≡ line Ready 0 [] ∷ line Ready 0 [] ∷ line Ready 3 aaa ∷ []
+  -- "received counts every delivery and every DATA payload, repeats too"
+  pub repeats-counted :
+      (let t = (after (deliverCall (dataOf 0 aaa) 5 ∷ deliverCall (dataOf 0 bcd) 5 ∷ []) (fresh 2 1 10 0)) .totals in t .rxPackets ∷ t .rxBytes ∷ [])
+      ≡ 2 ∷ 6 ∷ []
+  -- "end excluded": of three packets the block takes number 1
+  pub block-ends :
+      storedLengths (after (writeCall aaa ∷ writeCall aaa ∷ writeCall aaa ∷ deliverCall sack 5 ∷ []) (fresh 1 2 10 0)) ≡ 23 ∷ 0 ∷ 23 ∷ []
+  -- "An entry whose packet has left the store counts but writes nothing": the ack came before the packet was taken
+  pub settled-entry :
+      linesOf (writeCall aaa ∷ deliverCall ack 5 ∷ driveCall 5 ∷ takeCall 14_000 ∷ takeCall 14_000 ∷ []) (fresh 1 2 10 0)
+      ≡ line Ready 3 [] ∷ line Ready 0 [] ∷ line Ready 0 [] ∷ line Ready 0 [] ∷ line Nothing 0 [] ∷ []
+  -- "until inflight + length exceeds the window": halved to 1,400, it lets a packet of 1,400 bytes go again
+  pub fills-window :
+      (after (writeCall (replicate 1_380 65) ∷ driveCall 0 ∷ takeCall 14_000 ∷ driveCall 1_000_000_000 ∷ []) (fresh 1 2 10 0)) .queue .entries
+      ≡ packet 0 1_400 ∷ []
