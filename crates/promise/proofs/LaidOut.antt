@@ -26,6 +26,7 @@ use Rattle.records.specs.Open.{storesTest}
 use Rattle.records.proofs.FormedQueue.{queue-said}
 use Rattle.udx.specs.Agree.{laidOut}
 use Rattle.promise.specs.Runs.{Records, seenOf}
+use Rattle.promise.specs.Possible.{Sized}
 use Rattle.promise.proofs.LaidPackets.{Stored, laidSent, laidOutgoing, sent-length, outgoing-length, outgoing-stays, outgoing-seen, Kept, laidHeld, laidIncoming, held-length, incoming-length, incoming-stays, incoming-seen}
 use Rattle.promise.proofs.LaidQueue.{Fits, laidQueue, laidEntries, laidHeaders, entries-length, laid-headers-length, queue-seen, queue-formed}
 
@@ -83,12 +84,6 @@ laidLent e l =
       headers = laidHeaders (e .queue) (l .headers);
     }
 
--- the lengths of the arrays of words
-pub record Sized (l : Lent) : Type 0 where
-  pub sent : length (l .sent) ≡ 64
-  pub held : length (l .held) ≡ 32
-  pub queue : length (l .queue) ≡ 128
-
 -- records over the stores of l that are this end
 pub record LaidAs (e : model.End) (l : Lent) (x : Records) : Type 0 where
   pub seen : seenOf x ≡ e
@@ -109,7 +104,7 @@ kinds (model.state b ∷ q) = let h = kinds q in omega arith
 kinds (model.packet n l ∷ q) = let h = kinds q in omega arith
 
 module _ (e : model.End) (g : Invariant e) (l : Lent) (stores : storesTest (l .outgoing) (l .incoming) (l .headers) ≡ false) where
-  abbrev laid : Records
+  abbrev pub laid : Records
   laid = record { stream = laidStream e; totals = laidTotals (e .totals); lent = laidLent e l }
 
   sizes : (length (l .outgoing) ≡ 44_800) × (length (l .incoming) ≡ 44_160) × (length (l .headers) ≡ 1_280)
