@@ -1,7 +1,7 @@
--- Every call can be made on records that are an end of the model: its answer is the model's, and the end after it is laid out anew over the
--- stores. A refused call changes nothing. A read that puts the front of a packet changes that packet's word alone, since it may be refused
--- and then keeps every number. Assumes nothing.
-use Prim.Native.Nat.{ℕ, zero, suc, _+_, _-_, _%_, _≤_, _<_, min}
+-- Every call can be made on records that are an end of the model that keeps the invariant (`make`), and so every list of requests from an
+-- open (`every-run`). A refused call changes nothing; else the answer is the model's, and the end after it is laid out anew over the
+-- stores. A read is proofs/EveryRead.antt. Assumes nothing.
+use Prim.Native.Nat.{ℕ, _<_}
 use native.Mathlib.Omega.{arith}
 use mathlib.Core.Path.{_≡_, refl, sym, ap, _∙_, subst}
 use mathlib.Core.List.{List, [], _∷_}
@@ -12,7 +12,6 @@ use lib.Dec.{ltb, eqb}
 use lib.ListN.{length}
 use borrow.Author.Tests.{ne-eqb, ltb-true}
 use Rattle.error.specs.declared.Refusal.{Refusal}
-use Rattle.error.specs.declared.Refusal.the-variants.{BrokenRecords}
 use Rattle.error.specs.declared.Outcome.{Outcome}
 use Rattle.error.specs.declared.Outcome.the-variants.{Ready, Waiting, Done, Nothing, Refused}
 use Rattle.model.specs.Lists.{Bytes, isEmpty}
@@ -20,23 +19,27 @@ use Rattle.model.specs.Stream as stream
 use Rattle.model.specs.Stream.{End}
 use Rattle.model.specs.Answers.{Answer, refused, answered}
 use Rattle.model.specs.Sending as model
+use Rattle.model.specs.Sending.{openRefusal}
 use Rattle.model.specs.Receiving as model-in
 use Rattle.model.specs.Driving as model-out
-use Rattle.model.specs.Calls.{Call, writeCall, deliverCall, driveCall, takeCall, readCall, closeCall, answer}
+use Rattle.model.specs.Calls.{writeCall, deliverCall, driveCall, takeCall, closeCall, answer}
 use Rattle.model.proofs.Lists.{All, by-test}
 use Rattle.model.proofs.Gate.{by-gate}
 use Rattle.model.proofs.Invariant.{EntryIn, Left, atRest, toTake, Invariant}
 use Rattle.model.proofs.InvariantCalls.{call-keeps}
+use Rattle.records.specs.declared.opening.Opened.{Opened}
+use Rattle.records.specs.Put.{put}
 use Rattle.records.specs.Seen.{Lent}
-use Rattle.records.specs.Open.{storesTest}
+use Rattle.records.specs.Open.{freshStream, freshTotals, storesTest, openWhy}
 use Rattle.answers.specs.declared.step.Step.{Step}
 use Rattle.answers.specs.Steps.{refusedStep}
 use Rattle.udx.specs.Agree.{laidOut, onRecords, segmentOf, Agrees, Answers}
 use Rattle.udx.proofs.RefusalLaws.{refused-answers}
-use Rattle.promise.specs.Runs.{Records, seenOf}
-use Rattle.promise.specs.Possible.{Sized}
+use Rattle.promise.specs.Runs.{Records, seenOf, Request, toWrite, toDeliver, toDrive, toTake, toRead, toClose, callOf, Event, left, Did, OpenedBy, handedOut}
+use Rattle.promise.specs.Possible.{Sized, Makes, EveryRun}
 use Rattle.promise.proofs.LaidOut.{laid, LaidAs, laid-as}
-use Rattle.promise.proofs.Runs.{on-laid}
+use Rattle.promise.proofs.Runs.{on-laid, Stands, stands-next, open-stands}
+use Rattle.promise.proofs.EveryRead.{Given, give}
 
 -- a refused call changes nothing
 
@@ -215,3 +218,86 @@ module _ (x : Records) (out : laidOut (x .stream) (x .lent) ≡ true) (keeps : I
                 };
             sized = new .sized;
           }
+
+-- records that are an end of the model, over words of their arrays' lengths
+pub record Stand (x : Records) : Type 0 where
+  pub laid : laidOut (x .stream) (x .lent) ≡ true
+  pub keeps : Invariant (seenOf x)
+  pub sized : Sized (x .lent)
+
+pub record Made (x : Records) (q : Request) : Type 0 where
+  pub event : Event
+  pub request : event .request ≡ q
+  pub did : Did x event
+  pub next : Stand (left event)
+
+stand-next : (x : Records) (v : Event) → Stand x → Did x v → Sized (v .lent) → Stand (left v)
+stand-next x v h d n =
+    let s = stands-next x (seenOf x) v (record { laid = h .laid; end = refl; keeps = h .keeps }) d in
+    record { laid = s .laid; keeps = subst Invariant (sym (s .end)) (s .keeps); sized = n }
+
+module _ (x : Records) (h : Stand x) where
+  abbrev e : End
+  e = seenOf x
+
+  by-answer : (call : End → Answer) → Quiet e (call e) → Segment (call e) → Invariant ((call e) .end) → Answered x call
+  by-answer call quiet segment next = answer-call x (h .laid) (h .keeps) (h .sized) call quiet segment next
+
+  pub make : (q : Request) → Made x q
+  make (toWrite bytes) =
+      let a = by-answer (model.write bytes) (write-quiet bytes e) (write-segment bytes e) (call-keeps (writeCall bytes) e (h .keeps)) in
+      let v : Event = record { request = toWrite bytes; step = a .step; lent = a .after; buf = [] } in
+      record { event = v; request = refl; did = a .answers; next = stand-next x v h (a .answers) (a .sized) }
+  make (toDeliver datagram clock) =
+      let a =
+      by-answer (model-in.deliver datagram clock) (deliver-quiet datagram clock e) (deliver-segment datagram clock e) (call-keeps (deliverCall datagram clock) e (h .keeps)) in
+      let v : Event = record { request = toDeliver datagram clock; step = a .step; lent = a .after; buf = [] } in
+      record { event = v; request = refl; did = a .answers; next = stand-next x v h (a .answers) (a .sized) }
+  make (toDrive clock) =
+      let a = by-answer (model-out.drive clock) (drive-quiet clock e) (drive-segment clock e) (call-keeps (driveCall clock) e (h .keeps)) in
+      let v : Event = record { request = toDrive clock; step = a .step; lent = a .after; buf = [] } in
+      record { event = v; request = refl; did = a .answers; next = stand-next x v h (a .answers) (a .sized) }
+  make (toTake buf) =
+      let room = length buf in
+      let a = by-answer (model-out.take room) (take-quiet room e) (take-segment room e (h .keeps)) (call-keeps (takeCall room) e (h .keeps)) in
+      let buf′ = put buf 0 ((onRecords (model-out.take room) (x .stream) (x .totals) (x .lent)) .bytes) in
+      let v : Event = record { request = toTake buf; step = a .step; lent = a .after; buf = buf′ } in
+      let d : Did x v = record { answers = a .answers; bytes = refl } in
+      record { event = v; request = refl; did = d; next = stand-next x v h d (a .sized) }
+  make (toRead buf) =
+      let a = give x (h .laid) (stores x (h .laid) (h .keeps) (h .sized)) (h .keeps) (h .sized) buf in
+      let v : Event = record { request = toRead buf; step = a .step; lent = a .after; buf = a .buf′ } in
+      record { event = v; request = refl; did = a .gives; next = stand-next x v h (a .gives) (a .sized) }
+  make toClose =
+      let a = by-answer model.close (close-quiet e) (close-segment e) (call-keeps closeCall e (h .keeps)) in
+      let v : Event = record { request = toClose; step = a .step; lent = a .after; buf = [] } in
+      record { event = v; request = refl; did = a .answers; next = stand-next x v h (a .answers) (a .sized) }
+
+make-all : (qs : List Request) (x : Records) → Stand x → (events : List Event) × Makes qs events x
+make-all [] x h = ([], tt)
+make-all (q ∷ qs) x h =
+    let m = make x h q in
+    let (vs, rest) = make-all qs (left (m .event)) (m .next) in
+    (m .event ∷ vs, (m .request, m .did, m .next .sized, rest))
+
+-- an open that is not refused
+module _ (local remote segments clock : ℕ) (l : Lent) (accepted : openRefusal segments clock ≡ none) (fit : storesTest (l .outgoing) (l .incoming) (l .headers) ≡ false) where
+  abbrev pub freshOpened : Opened
+  freshOpened = record { outcome = Ready; stream = freshStream local remote segments clock; totals = freshTotals }
+
+  why-none : openWhy segments clock (l .outgoing) (l .incoming) (l .headers) ≡ none
+  unfolding openWhy openRefusal
+  why-none = rw fit accepted
+
+  pub can-open : OpenedBy local remote segments clock l freshOpened
+  can-open = record { opens = record { outcome = rw why-none refl; stream = rw why-none refl; totals = refl }; ready = refl }
+
+  pub open-stand : Sized l → Stand (handedOut freshOpened l)
+  open-stand n =
+      let s = open-stands local remote segments clock l freshOpened can-open in
+      record { laid = s .laid; keeps = subst Invariant (sym (s .end)) (s .keeps); sized = n }
+
+pub every-run : EveryRun
+every-run local remote segments clock l accepted fit n =
+    let o = freshOpened local remote segments clock l accepted fit in
+    (o, can-open local remote segments clock l accepted fit, λ requests. make-all requests (handedOut o l) (open-stand local remote segments clock l accepted fit n))
