@@ -119,9 +119,10 @@ module _ (remoteAcked seq i : ℕ) where
 
 -- two tables, one after the other
 two-tables : (k : ℕ) (f g : ℕ → ℕ) (i : ℕ) → i < k → (getD (table k f ++ table k g) i 0 ≡ f i) × (getD (table k f ++ table k g) (k + i) 0 ≡ g i)
-two-tables k f g i l =
-    (List·getD-append (table k f) (table k g) 0 i (rw (table-length k f) l) ∙ table-get k f i 0 l,
-    ap (λ (n : ℕ). getD (table k f ++ table k g) (n + i) 0) (sym (table-length k f)) ∙ getD-append-add (table k f) (table k g) i 0 ∙ table-get k g i 0 l)
+two-tables k f g i l = (
+  List·getD-append (table k f) (table k g) 0 i (rw (table-length k f) l) ∙ table-get k f i 0 l,
+  ap (λ (n : ℕ). getD (table k f ++ table k g) (n + i) 0) (sym (table-length k f)) ∙ getD-append-add (table k f) (table k g) i 0 ∙ table-get k g i 0 l,
+)
 
 module _ (s : Slots model.Packet) where
   unfoldable pub laidSent : List ℕ
