@@ -36,7 +36,7 @@ use Rattle.answers.specs.Steps.{refusedStep}
 use Rattle.udx.specs.Agree.{laidOut, onRecords, segmentOf, Agrees, Answers}
 use Rattle.udx.proofs.RefusalLaws.{refused-answers}
 use Rattle.promise.specs.Runs.{Records, seenOf, Request, toWrite, toDeliver, toDrive, toTake, toRead, toClose, callOf, Event, left, Did, OpenedBy, handedOut}
-use Rattle.promise.specs.Possible.{Sized, Makes, EveryRun}
+use Rattle.promise.specs.Possible.{Sized, Openable, Makes, EveryRun}
 use Rattle.promise.proofs.LaidOut.{laid, LaidAs, laid-as}
 use Rattle.promise.proofs.Runs.{on-laid, Stands, stands-next, open-stands}
 use Rattle.promise.proofs.EveryRead.{Given, give}
@@ -281,23 +281,24 @@ make-all (q ∷ qs) x h =
     (m .event ∷ vs, (m .request, m .did, m .next .sized, rest))
 
 -- an open that is not refused
-module _ (local remote segments clock : ℕ) (l : Lent) (accepted : openRefusal segments clock ≡ none) (fit : storesTest (l .outgoing) (l .incoming) (l .headers) ≡ false) where
+module _ (local remote segments clock : ℕ) (l : Lent) (h : Openable segments clock l) where
   abbrev pub freshOpened : Opened
   freshOpened = record { outcome = Ready; stream = freshStream local remote segments clock; totals = freshTotals }
 
   why-none : openWhy segments clock (l .outgoing) (l .incoming) (l .headers) ≡ none
   unfolding openWhy openRefusal
-  why-none = rw fit accepted
+  why-none = rw (h .stores) (h .accepted)
 
   pub can-open : OpenedBy local remote segments clock l freshOpened
   can-open = record { opens = record { outcome = rw why-none refl; stream = rw why-none refl; totals = refl }; ready = refl }
 
-  pub open-stand : Sized l → Stand (handedOut freshOpened l)
-  open-stand n =
+  pub open-stand : Stand (handedOut freshOpened l)
+  open-stand =
       let s = open-stands local remote segments clock l freshOpened can-open in
-      record { laid = s .laid; keeps = subst Invariant (sym (s .end)) (s .keeps); sized = n }
+      record { laid = s .laid; keeps = subst Invariant (sym (s .end)) (s .keeps); sized = h .words }
 
 pub every-run : EveryRun
-every-run local remote segments clock l accepted fit n =
-    let o = freshOpened local remote segments clock l accepted fit in
-    (o, can-open local remote segments clock l accepted fit, λ requests. make-all requests (handedOut o l) (open-stand local remote segments clock l accepted fit n))
+every-run local remote segments clock l h =
+    (freshOpened local remote segments clock l h,
+    can-open local remote segments clock l h,
+    λ requests. make-all requests (handedOut (freshOpened local remote segments clock l h) l) (open-stand local remote segments clock l h))

@@ -1,24 +1,38 @@
--- What the theorems about lists of calls ask for can be had. They quantify over events that satisfy the contracts of the exported
--- functions, and here such events are made: over any stores of 01's lengths, at any ceiling and clock that open accepts, every list of
--- requests is the list of some run from an open (`EveryRun`), and two ends carry bytes from one to the other (`Possible`). Statements
--- only: the proofs are proofs/EveryCall.antt and proofs/Possible.antt. Assumes nothing.
+-- The hypotheses of the theorems about lists of calls are satisfiable. Those theorems quantify over events that satisfy the contracts of
+-- the exported functions; here such events exist: every list of requests is that of some calls from an open (`EveryRun`), whatever two
+-- ends of the model do over a line two ends on the records can do (`EveryLine`), and one carries bytes to the other (`Possible`).
+-- Statements only: the proofs are proofs/EveryCall.antt and proofs/Possible.antt. Assumes nothing.
 use Prim.Native.Nat.{ℕ, _≤_}
 use mathlib.Core.Path.{_≡_}
 use mathlib.Core.List.{List, [], _∷_}
 use mathlib.Core.Option.{none}
 use mathlib.Core.Bool.{false}
 use lib.ListN.{length}
+use Rattle.model.specs.Lists.{Bytes}
 use Rattle.model.specs.Sending.{openRefusal}
+use Rattle.model.specs.TwoEnds as model
+use Rattle.model.specs.TwoEnds.{Id}
 use Rattle.records.specs.declared.opening.Opened.{Opened}
 use Rattle.records.specs.Seen.{Lent}
 use Rattle.records.specs.Open.{storesTest}
-use Rattle.promise.specs.Runs.{Records, Request, Event, left, Did, OpenedBy, handedOut}
+use Rattle.promise.specs.Runs.{Records, Request, toWrite, toDeliver, toDrive, toTake, toRead, callOf, Event, left, Did, OpenedBy, handedOut}
+use Rattle.promise.specs.TwoEndsOnRecords.{Ends, Turn, onA, onB, lastOf, OverALine, bothOpened}
 
--- the lengths of the lent arrays of words: 64, 32 and 128
+-- what is lent to the calls of one end
+
+-- the lengths of the arrays of words
 pub record Sized (l : Lent) : Type 0 where
   pub sent : length (l .sent) ≡ 64
   pub held : length (l .held) ≡ 32
   pub queue : length (l .queue) ≡ 128
+
+-- ceiling and clock that open accepts, stores of 01's lengths with any bytes in them, and words that may hold anything
+pub record Openable (segments clock : ℕ) (l : Lent) : Type 0 where
+  pub accepted : openRefusal segments clock ≡ none
+  pub stores : storesTest (l .outgoing) (l .incoming) (l .headers) ≡ false
+  pub words : Sized l
+
+-- one end
 
 -- each request was made, by a call that did what its contract says and left words of the same lengths
 abbrev pub Makes : List Request → List Event → Records → Type 0
@@ -27,11 +41,68 @@ Makes [] (v ∷ vs) x = ⊥
 Makes (q ∷ qs) [] x = ⊥
 Makes (q ∷ qs) (v ∷ vs) x = (v .request ≡ q) × Did x v × Sized (v .lent) × Makes qs vs (left v)
 
--- Every list of requests, with any bytes to deliver, can be made from an open that was not refused.
+-- Every list of requests, with any bytes to deliver, can be made from an open that is not refused.
 abbrev pub EveryRun : Type 0
 EveryRun =
     (local remote segments clock : ℕ) (l : Lent)
-    → openRefusal segments clock ≡ none
-    → storesTest (l .outgoing) (l .incoming) (l .headers) ≡ false
-    → Sized l
+    → Openable segments clock l
     → (o : Opened) × OpenedBy local remote segments clock l o × ((requests : List Request) → (events : List Event) × Makes requests events (handedOut o l))
+
+-- two ends
+
+pub data Asked : Type 0 where
+  ofA ofB : Request → Asked
+
+abbrev pub askedBy : List Turn → List Asked
+askedBy [] = []
+askedBy (onA v ∷ cs) = ofA (v .request) ∷ askedBy cs
+askedBy (onB v ∷ cs) = ofB (v .request) ∷ askedBy cs
+
+abbrev pub commandsFor : List Asked → List model.Command
+commandsFor [] = []
+commandsFor (ofA q ∷ qs) = model.onA (callOf q) ∷ commandsFor qs
+commandsFor (ofB q ∷ qs) = model.onB (callOf q) ∷ commandsFor qs
+
+-- Every list of calls over a line that the model's `TwoEnds` speaks of can be made on the records, so `TwoEndsOnRecords` speaks of it too.
+abbrev pub EveryLine : Type 0
+EveryLine =
+    (i j segmentsA segmentsB clockA clockB : ℕ) (lentA lentB : Lent)
+    → Openable segmentsA clockA lentA
+    → Openable segmentsB clockB lentB
+    → (a : Opened)
+    × (b : Opened)
+    × OpenedBy i j segmentsA clockA lentA a
+    × OpenedBy j i segmentsB clockB lentB b
+    × ((asked : List Asked)
+    → model.OverALine (commandsFor asked) (model.bothOpened i j segmentsA segmentsB clockA clockB)
+    → (turns : List Turn) × (askedBy turns ≡ asked) × OverALine turns (bothOpened a b lentA lentB))
+
+-- bytes are written, driven and taken at a, and what was taken, one datagram, is delivered and read at b
+pub record Traffic (clockA clockB : ℕ) (bytes batch room : Bytes) (w : Ends) : Type 0 where
+  pub turns : List Turn
+  pub datagram : Bytes
+  pub asked : askedBy turns
+      ≡ ofA (toWrite bytes) ∷ ofA (toDrive clockA) ∷ ofA (toTake batch) ∷ ofB (toDeliver datagram clockB) ∷ ofB (toRead room) ∷ []
+  pub line : OverALine turns w
+  pub accepted : lastOf turns w .a .past .accepted ≡ bytes
+  pub taken : lastOf turns w .a .past .taken ≡ datagram ∷ []
+  pub reads : lastOf turns w .b .past .reads ≡ bytes
+
+-- Such traffic can be had, of any bytes of one piece, with any buffers that a take and a read accept.
+abbrev pub Possible : Type 0
+Possible =
+    (i j segmentsA segmentsB clockA clockB : ℕ) (lentA lentB : Lent)
+    → Id i
+    → Id j
+    → Openable segmentsA clockA lentA
+    → Openable segmentsB clockB lentB
+    → (bytes batch room : Bytes)
+    → 1 ≤ length bytes
+    → length bytes ≤ 1_380
+    → 14_000 ≤ length batch
+    → length room ≡ 1_380
+    → (a : Opened)
+    × (b : Opened)
+    × OpenedBy i j segmentsA clockA lentA a
+    × OpenedBy j i segmentsB clockB lentB b
+    × Traffic clockA clockB bytes batch room (bothOpened a b lentA lentB)
