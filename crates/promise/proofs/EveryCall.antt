@@ -6,7 +6,7 @@ use native.Mathlib.Omega.{arith}
 use mathlib.Core.Path.{_≡_, refl, sym, ap, _∙_, subst}
 use mathlib.Core.List.{List, [], _∷_}
 use mathlib.Core.Logic.{_⊎_, inl, inr}
-use mathlib.Core.Option.{Option, none, some}
+use mathlib.Core.Option.{none, some}
 use mathlib.Core.Bool.{Bool, true, false, cond, _&&_, _||_, not, true≢false}
 use lib.Dec.{ltb, eqb}
 use lib.ListN.{length}
@@ -22,7 +22,7 @@ use Rattle.model.specs.Sending as model
 use Rattle.model.specs.Sending.{openRefusal}
 use Rattle.model.specs.Receiving as model-in
 use Rattle.model.specs.Driving as model-out
-use Rattle.model.specs.Calls.{writeCall, deliverCall, driveCall, takeCall, closeCall, answer}
+use Rattle.model.specs.Calls.{writeCall, deliverCall, driveCall, takeCall, closeCall}
 use Rattle.model.proofs.Lists.{All, by-test}
 use Rattle.model.proofs.Gate.{by-gate}
 use Rattle.model.proofs.Invariant.{EntryIn, Left, atRest, toTake, Invariant}
@@ -35,11 +35,11 @@ use Rattle.answers.specs.declared.step.Step.{Step}
 use Rattle.answers.specs.Steps.{refusedStep}
 use Rattle.udx.specs.Agree.{laidOut, onRecords, segmentOf, Agrees, Answers}
 use Rattle.udx.proofs.RefusalLaws.{refused-answers}
-use Rattle.promise.specs.Runs.{Records, seenOf, Request, toWrite, toDeliver, toDrive, toTake, toRead, toClose, callOf, Event, left, Did, OpenedBy, handedOut}
+use Rattle.promise.specs.Runs.{Records, seenOf, Request, toWrite, toDeliver, toDrive, toTake, toRead, toClose, Event, left, Did, OpenedBy, handedOut}
 use Rattle.promise.specs.Possible.{Sized, Openable, Makes, EveryRun}
 use Rattle.promise.proofs.LaidOut.{laid, LaidAs, laid-as}
-use Rattle.promise.proofs.Runs.{on-laid, Stands, stands-next, open-stands}
-use Rattle.promise.proofs.EveryRead.{Given, give}
+use Rattle.promise.proofs.Runs.{on-laid, stands-next, open-stands}
+use Rattle.promise.proofs.EveryRead.{give}
 
 -- a refused call changes nothing
 
@@ -298,7 +298,8 @@ module _ (local remote segments clock : ℕ) (l : Lent) (h : Openable segments c
       record { laid = s .laid; keeps = subst Invariant (sym (s .end)) (s .keeps); sized = h .words }
 
 pub every-run : EveryRun
-every-run local remote segments clock l h =
-    (freshOpened local remote segments clock l h,
-    can-open local remote segments clock l h,
-    λ requests. make-all requests (handedOut (freshOpened local remote segments clock l h) l) (open-stand local remote segments clock l h))
+every-run local remote segments clock l h = (
+  freshOpened local remote segments clock l h,
+  can-open local remote segments clock l h,
+  λ requests. make-all requests (handedOut (freshOpened local remote segments clock l h) l) (open-stand local remote segments clock l h),
+)

@@ -1,10 +1,10 @@
 -- A read can be made on records that are an end of the model. One that finds nothing changes nothing; one that puts the front of a packet
 -- changes that packet's word alone, since it may be refused and then keeps every number; one that finishes a packet is ready, and the end
 -- after it is laid out anew. Assumes nothing.
-use Prim.Native.Nat.{ℕ, suc, _+_, _-_, _%_, _≤_, _<_}
+use Prim.Native.Nat.{ℕ, suc, _+_, _-_, _%_, _<_}
 use native.Mathlib.Omega.{arith}
-use mathlib.Core.Path.{_≡_, refl, sym, ap, ap₂, _∙_, subst}
-use mathlib.Core.List.{List, []}
+use mathlib.Core.Path.{_≡_, refl, sym, ap, _∙_, subst}
+use mathlib.Core.List.{List}
 use mathlib.Core.Option.{Option, none, some}
 use mathlib.Core.Bool.{Bool, true, false, cond}
 use lib.Dec.{ltb}
@@ -19,9 +19,9 @@ use Rattle.error.specs.declared.Outcome.the-variants.{Ready, Waiting, Refused}
 use Rattle.model.specs.Lists.{Bytes}
 use Rattle.model.specs.Slots.{ceiling, get, insert}
 use Rattle.model.specs.Stream as model
-use Rattle.model.specs.Stream.{End, withReceiver}
+use Rattle.model.specs.Stream.{withReceiver}
 use Rattle.model.specs.Answers.{Answer}
-use Rattle.model.specs.Receiving.{readTo, rest, Got, gotNone, gotFront, readLoop, readNext, readOutcome, readAnswer, readRefusal, read}
+use Rattle.model.specs.Receiving.{rest, Got, gotNone, gotFront, readLoop, readNext, readOutcome, readAnswer, readRefusal, read}
 use Rattle.model.specs.Calls.{readCall}
 use Rattle.model.proofs.Gate.{gate-open}
 use Rattle.model.proofs.Slots.{no-some, some-inj}
@@ -36,7 +36,7 @@ use Rattle.records.specs.Cut.{incomingSlot}
 use Rattle.records.specs.Seen.{Lent, seen, seenIncoming, heldPayload}
 use Rattle.records.specs.Open.{storesTest}
 use Rattle.records.proofs.Cut.{cut-length}
-use Rattle.records.proofs.SeenIncoming.{heldIn, withHeld, heldAt, get-incoming, get-past, offset-incoming}
+use Rattle.records.proofs.SeenIncoming.{heldIn, withHeld, get-incoming, get-past, offset-incoming}
 use Rattle.answers.specs.declared.step.Step.{Step}
 use Rattle.udx.specs.Agree.{laidOut, onRecords, Agrees}
 use Rattle.udx.specs.Read.{readLent, Gives}

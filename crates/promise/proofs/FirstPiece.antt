@@ -3,16 +3,15 @@
 use Prim.Native.Nat.{ℕ, zero, suc, _+_, _≤_, _<_, min}
 use native.Mathlib.Omega.{arith}
 use mathlib.Core.Path.{_≡_, refl, ap, sym, _∙_, subst}
-use mathlib.Core.List.{List, [], _∷_, _++_, append-nil}
+use mathlib.Core.List.{[], _∷_, append-nil}
 use mathlib.Core.Option.{none, some}
-use mathlib.Core.Bool.{Bool, true, false, cond, _||_}
+use mathlib.Core.Bool.{false, cond, _||_}
 use lib.Dec.{ltb}
 use lib.ListN.{length, drop-of-length-le, length-append}
 use lib.Seq.{take-all}
 use borrow.Author.Tests.{lt-leb, le-ltb, eq-eqb, ltb-false}
-use Rattle.error.specs.declared.Refusal.{Refusal}
 use Rattle.error.specs.declared.Outcome.the-variants.{Ready, Done, Nothing}
-use Rattle.model.specs.Lists.{Bytes, joined}
+use Rattle.model.specs.Lists.{Bytes}
 use Rattle.model.specs.Slots.{noSlots, get}
 use Rattle.model.specs.Stream.{Packet, End, fresh, withSender}
 use Rattle.model.specs.Answers.{Answer, answered}

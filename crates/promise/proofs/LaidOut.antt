@@ -1,16 +1,15 @@
 -- Every end of the model that keeps the invariant can be laid out as records: numbers, words and stores that are seen as it, over stores of
 -- 01's lengths, in which the bytes past the packets stay (`laid`). Assumes nothing.
-use Prim.Native.Nat.{ℕ, _+_, _*_, _^_, _≤_, _<_}
+use Prim.Native.Nat.{ℕ, _+_, _≤_}
 use native.Mathlib.Omega.{arith}
-use mathlib.Core.Path.{_≡_, refl, ap, sym, _∙_}
+use mathlib.Core.Path.{_≡_, refl}
 use mathlib.Core.List.{List, [], _∷_}
 use mathlib.Core.Logic.{_⊎_, inl, inr}
 use mathlib.Core.Option.{none, some}
-use mathlib.Core.Bool.{Bool, true, false, _&&_, _||_, not, true≢false}
+use mathlib.Core.Bool.{Bool, true, false, _||_, not, true≢false}
 use lib.Dec.{eqb}
 use lib.ListN.{length, getD}
 use borrow.Author.Tests.{eqb-true, le-leb}
-use Rattle.model.specs.Lists.{Bytes}
 use Rattle.model.specs.Slots.{Numbered, ceiling}
 use Rattle.model.specs.Rules.{states, numbers}
 use Rattle.model.specs.Stream as model

@@ -5,8 +5,8 @@ use native.Mathlib.Omega.{arith}
 use mathlib.Core.Path.{_≡_, refl, ap, ap₂, sym, _∙_, subst}
 use mathlib.Core.List.{List, [], _++_}
 use mathlib.Core.Option.{Option, none, some}
-use mathlib.Core.Bool.{Bool, true, false, cond, _&&_, not, true≢false}
-use lib.Dec.{ltb, leb, eqb}
+use mathlib.Core.Bool.{Bool, true, false, cond, _&&_, true≢false}
+use lib.Dec.{ltb, leb}
 use lib.ListN.{length, getD, length-append, List·getD-append}
 use lib.Seq.{getD-append-add, ext-getD}
 use borrow.Author.Tests.{le-leb, lt-ltb, eq-eqb, ne-eqb}
@@ -18,10 +18,10 @@ use Rattle.words.specs.declared.Held.{Held}
 use Rattle.words.specs.Words.{sentOf, sentIn, sentWord, sentTime, isStored, heldOf, heldWord, isHeld}
 use Rattle.words.proofs.WordLaws.{sent-back, no-sent, held-back, no-held}
 use Rattle.records.specs.Table.{table}
-use Rattle.records.specs.Cut.{cut, beyond, outgoingSlot, incomingSlot}
-use Rattle.records.specs.Seen.{numbered, marksOf, packetOf, inSlot, outgoingSlotAt, seenOutgoing, heldPayload, incomingSlotAt, seenIncoming}
+use Rattle.records.specs.Cut.{cut, outgoingSlot, incomingSlot}
+use Rattle.records.specs.Seen.{numbered, packetOf, inSlot, outgoingSlotAt, seenOutgoing, heldPayload, incomingSlotAt, seenIncoming}
 use Rattle.records.specs.Beside.{Stay, sentSize, heldSize}
-use Rattle.records.proofs.Table.{table-length, table-get, table-same}
+use Rattle.records.proofs.Table.{table-length, table-get}
 use Rattle.records.proofs.Cut.{out-is, in-is}
 use Rattle.promise.proofs.LaidStore.{withPieces, pieces-length, pieces-cut, pieces-beyond}
 

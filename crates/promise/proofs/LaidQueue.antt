@@ -1,18 +1,17 @@
 -- The send queue of an end of the model, laid out: a word for each entry, and the bytes of its state packets one after the other at the
 -- front of the header store. Assumes nothing.
-use Prim.Native.Nat.{ℕ, zero, suc, _+_, _-_, _*_, _%_, _^_, _≤_, _<_}
-use native.Mathlib.Nat.{suc-mul}
+use Prim.Native.Nat.{ℕ, suc, _+_, _-_, _*_, _^_, _≤_, _<_}
 use native.Mathlib.Omega.{arith}
-use mathlib.Core.Path.{_≡_, refl, ap, ap₂, sym, _∙_, subst}
-use mathlib.Core.List.{List, [], _∷_, _++_, append-assoc, append-nil}
+use mathlib.Core.Path.{_≡_, refl, ap, ap₂, sym, _∙_}
+use mathlib.Core.List.{List, [], _∷_, _++_, append-assoc}
 use mathlib.Core.Logic.{_⊎_, inl, inr}
 use mathlib.Core.Bool.{Bool, true, false, cond}
 use lib.Dec.{eqb}
-use borrow.Author.Tests.{eq-eqb, ne-eqb}
+use borrow.Author.Tests.{eq-eqb}
 use lib.ListN.{length, take, drop, replicate, length-append, length-replicate}
-use lib.Seq.{take-at, drop-at, drop-length, take-append-seam}
+use lib.Seq.{take-at, drop-at}
 use Rattle.model.specs.Lists.{Bytes}
-use Rattle.model.specs.Rules.{states, numbers}
+use Rattle.model.specs.Rules.{states}
 use Rattle.model.specs.Stream as model
 use Rattle.model.proofs.Lists.{All}
 use Rattle.words.specs.declared.Entry.{Entry}

@@ -3,8 +3,8 @@
 use Prim.Native.Nat.{ℕ, zero, suc, _+_, _-_, _*_, _≤_, _<_}
 use native.Mathlib.Nat.{mul-le-mul-right, suc-mul}
 use native.Mathlib.Omega.{arith}
-use mathlib.Core.Path.{_≡_, refl, ap, sym, _∙_}
-use mathlib.Core.List.{List, _++_}
+use mathlib.Core.Path.{_≡_, ap, _∙_}
+use mathlib.Core.List.{_++_}
 use lib.ListN.{length, take, drop, replicate, length-take, length-drop, length-append}
 use lib.Seq.{take-at, drop-at, drop-drop, take-append-seam, drop-append-seam, take-append-le}
 use Rattle.model.specs.Lists.{Bytes, joined}

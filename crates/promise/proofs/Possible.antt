@@ -22,12 +22,12 @@ use Rattle.model.proofs.AliveWrite.{fresh-write}
 use Rattle.model.proofs.AliveCarried.{carried-once}
 use Rattle.records.specs.declared.opening.Opened.{Opened}
 use Rattle.records.specs.Seen.{Lent}
-use Rattle.promise.specs.Runs.{seenOf, Request, toWrite, toDeliver, toDrive, toTake, toRead, toClose, callOf, Event, left, Did, OpenedBy, handedOut}
-use Rattle.promise.specs.TwoEndsOnRecords.{Side, happened, Ends, Turn, onA, onB, turned, lastOf, Brings, OverALine, bothOpened}
+use Rattle.promise.specs.Runs.{seenOf, Request, toWrite, toDeliver, toDrive, toTake, toRead, toClose, callOf, Event, Did}
+use Rattle.promise.specs.TwoEndsOnRecords.{Side, Ends, Turn, onA, onB, turned, lastOf, Brings, OverALine, bothOpened}
 use Rattle.promise.specs.Possible.{Openable, Asked, ofA, ofB, askedBy, commandsFor, EveryLine, Traffic, Possible}
-use Rattle.promise.proofs.Runs.{Stands, stands-answer, open-stands}
+use Rattle.promise.proofs.Runs.{stands-answer, open-stands}
 use Rattle.promise.proofs.Line.{seenSide, seenEnds, commandsOf, Laid, call-same, run-same}
-use Rattle.promise.proofs.EveryCall.{Stand, Made, make, freshOpened, can-open, open-stand}
+use Rattle.promise.proofs.EveryCall.{Stand, make, freshOpened, can-open, open-stand}
 use Rattle.promise.proofs.FirstPiece.{more-room, first-taken}
 
 -- one call
@@ -121,4 +121,73 @@ every-line i j segmentsA segmentsB clockA clockB lentA lentB hA hB = (
   can-open i j segmentsA clockA lentA hA,
   can-open j i segmentsB clockB lentB hB,
   λ asked f. let l = make-from-open i j segmentsA segmentsB clockA clockB lentA lentB hA hB asked f in (l .turns, l .are, l .line),
+)
+
+-- one piece
+
+module _ (i j segmentsA segmentsB clockA clockB : ℕ) (lentA lentB : Lent) (idI : Id i) (idJ : Id j) (hA : Openable segmentsA clockA lentA)
+    (hB : Openable segmentsB clockB lentB) (bytes batch room : Bytes) (some-bytes : 1 ≤ length bytes) (one-piece : length bytes ≤ 1_380)
+    (large : 14_000 ≤ length batch) (size : length room ≡ 1_380) where
+  -- the model's answers
+  abbrev wrote : Answer
+  wrote = model.write bytes (fresh i j segmentsA clockA)
+
+  abbrev drove : Answer
+  drove = model-out.drive clockA (wrote .end)
+
+  abbrev took : Answer
+  took = model-out.take (length batch) (drove .end)
+
+  abbrev delivered : Answer
+  delivered = model-in.deliver (took .bytes) clockB (fresh j i segmentsB clockB)
+
+  abbrev read : Answer
+  read = model-in.read (length room) (delivered .end)
+
+  same-take : took ≡ model-out.take 14_000 (drove .end)
+  same-take = more-room (length batch) (drove .end) large
+
+  one-datagram : model-out.datagramsOf (took .segment) (took .bytes) ≡ took .bytes ∷ []
+  one-datagram =
+      let (w, d, t, h, r, e) = carried-once i j segmentsA segmentsB clockA clockB idI idJ (hA .accepted) (hB .accepted) bytes some-bytes one-piece in
+      first-taken i j segmentsA clockA (hA .accepted) bytes some-bytes one-piece (length batch) w d (ap (λ (a : Answer). a .outcome) same-take ∙ t)
+
+  bytes-read : read .bytes ≡ bytes
+  bytes-read =
+      let (w, d, t, h, r, e) = carried-once i j segmentsA segmentsB clockA clockB idI idJ (hA .accepted) (hB .accepted) bytes some-bytes one-piece in
+      ap₂ (λ (k : ℕ) (x : Bytes). (model-in.read k ((model-in.deliver x clockB (fresh j i segmentsB clockB)) .end)) .bytes) size (ap (λ (a : Answer). a .bytes) same-take) ∙ e
+
+  all-accepted : take (wrote .count) bytes ≡ bytes
+  all-accepted =
+      let (o, c) = fresh-write i j segmentsA clockA (hA .accepted) bytes in
+      let k : wrote .count ≡ length bytes = c ∙ (let m : min (length bytes) 2_760 ≡ length bytes = omega arith in m) in
+      rw k (take-length bytes)
+
+  abbrev five : List Asked
+  five = ofA (toWrite bytes) ∷ ofA (toDrive clockA) ∷ ofA (toTake batch) ∷ ofB (toDeliver (took .bytes) clockB) ∷ ofB (toRead room) ∷ []
+
+  model-line : two-ends.OverALine (commandsFor five) (two-ends.bothOpened i j segmentsA segmentsB clockA clockB)
+  model-line = (tt, (tt, (tt, (inl (subst (List·Memᴰ (took .bytes)) (sym one-datagram) (List·Memᴰ·head refl)), (tt, tt)))))
+
+  traffic : Traffic clockA clockB bytes batch room (start i j segmentsA segmentsB clockA clockB lentA lentB hA hB)
+  traffic =
+      let l = make-from-open i j segmentsA segmentsB clockA clockB lentA lentB hA hB five model-line in
+      let e = ends-are i j segmentsA segmentsB clockA clockB lentA lentB hA hB five l in
+      record {
+        turns = l .turns;
+        datagram = took .bytes;
+        asked = l .are;
+        line = l .line;
+        accepted = ap (λ (w : two-ends.Ends). w .a .past .accepted) e ∙ all-accepted;
+        taken = ap (λ (w : two-ends.Ends). w .a .past .taken) e ∙ one-datagram;
+        reads = ap (λ (w : two-ends.Ends). w .b .past .reads) e ∙ bytes-read;
+      }
+
+pub possible : Possible
+possible i j segmentsA segmentsB clockA clockB lentA lentB idI idJ hA hB bytes batch room some-bytes one-piece large size = (
+  a i j segmentsA segmentsB clockA clockB lentA lentB hA hB,
+  b i j segmentsA segmentsB clockA clockB lentA lentB hA hB,
+  can-open i j segmentsA clockA lentA hA,
+  can-open j i segmentsB clockB lentB hB,
+  traffic i j segmentsA segmentsB clockA clockB lentA lentB idI idJ hA hB bytes batch room some-bytes one-piece large size,
 )
