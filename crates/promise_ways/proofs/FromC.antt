@@ -78,19 +78,19 @@ outcome-back outcome.Done = refl
 outcome-back outcome.Nothing = refl
 outcome-back (outcome.Refused why) = ap outcome.Refused (refusal-back why)
 
-step-back : (r : Step) → stepOf (flatStep r) ≡ r
+pub step-back : (r : Step) → stepOf (flatStep r) ≡ r
 unfolding flatStep
 step-back r = rw (comes-back .stream (r .stream), comes-back .totals (r .totals), outcome-back (r .outcome)) refl
 
-opened-back : (o : Opened) → openedOf (flatOpened o) ≡ o
+pub opened-back : (o : Opened) → openedOf (flatOpened o) ≡ o
 unfolding flatOpened
 opened-back o = rw (comes-back .stream (o .stream), comes-back .totals (o .totals), outcome-back (o .outcome)) refl
 
-step-known : (r : Step) → isStrange (flatStep r .stream .ending) ≡ false
+pub step-known : (r : Step) → isStrange (flatStep r .stream .ending) ≡ false
 unfolding flatStep
 step-known r = comes-back .known (r .stream)
 
-opened-known : (o : Opened) → isStrange (flatOpened o .stream .ending) ≡ false
+pub opened-known : (o : Opened) → isStrange (flatOpened o .stream .ending) ≡ false
 unfolding flatOpened
 opened-known o = comes-back .known (o .stream)
 
@@ -180,7 +180,7 @@ same-from-c local remote segments clock l o h events d =
 
 -- lists of calls on two ends
 
-abbrev endsOf : PlainEnds → records.Ends
+abbrev pub endsOf : PlainEnds → records.Ends
 endsOf w = record { a = sideOf (w .a); b = sideOf (w .b) }
 
 abbrev turnOf : PlainTurn → records.Turn
@@ -192,7 +192,7 @@ turnsOf [] = []
 turnsOf (c ∷ cs) = turnOf c ∷ turnsOf cs
 
 -- neither end has a strange byte
-abbrev Known : PlainEnds → Type 0
+abbrev pub Known : PlainEnds → Type 0
 Known w = (isStrange (w .a .plain .stream .ending) ≡ false) × (isStrange (w .b .plain .stream .ending) ≡ false)
 
 line : (cs : List PlainTurn) (w : PlainEnds) → Known w → PlainOverALine cs w

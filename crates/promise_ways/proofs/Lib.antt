@@ -2,3 +2,4 @@ pub mod Contracts
 pub mod FromC
 pub mod LentTotals
 pub mod Mixed
+pub mod Possible

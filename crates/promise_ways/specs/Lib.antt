@@ -3,3 +3,4 @@ pub mod Contracts
 pub mod FromC
 pub mod LentTotals
 pub mod Mixed
+pub mod Possible

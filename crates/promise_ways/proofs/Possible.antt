@@ -1,0 +1,93 @@
+-- Calls on the records are calls from C (`did-plain`): numbers without a strange byte stand for records, and the step of a call on these,
+-- as numbers, satisfies the contract of the C function and stands for the step again. So what can be made on the records can be made from
+-- C. Assumes nothing.
+use Prim.Native.Nat.{ℕ}
+use mathlib.Core.Path.{_≡_, refl, sym, ap, ap₂, _∙_, subst}
+use mathlib.Core.Bool.{true, false, true≢false}
+use mathlib.Core.List.{List, [], _∷_}
+use Rattle.error.specs.declared.Outcome.{Outcome}
+use Rattle.model.specs.Lists.{Bytes}
+use Rattle.model.specs.TwoEnds.{noHistory}
+use Rattle.records.specs.declared.Stream.{Stream}
+use Rattle.records.specs.declared.Totals.{Totals}
+use Rattle.records.specs.declared.opening.Opened.{Opened}
+use Rattle.records.specs.Seen.{Lent}
+use Rattle.answers.specs.declared.step.Step.{Step}
+use Rattle.promise.specs.Runs.{Records, Request, toWrite, toDeliver, toDrive, toTake, toRead, toClose, Event, left, DidWith, Did, OpenedBy, handedOut}
+use Rattle.promise.specs.TwoEndsOnRecords as records
+use Rattle.promise.specs.Possible.{Makes, Asked, ofA, ofB, askedBy}
+use Rattle.promise.proofs.EveryCall.{every-run}
+use Rattle.promise.proofs.Possible.{every-line, possible}
+use Rattle.flat.specs.declared.structs.FlatStep.{FlatStep}
+use Rattle.flat.specs.Bytes.{isStrange}
+use Rattle.flat.specs.Flat.{streamOf, totalsOf, flatStep, flatOpened}
+use Rattle.udx_c.specs.Crosses.{Crosses}
+use Rattle.promise_ways.specs.Calls.{Plain, PlainEvent, PlainDidWith, PlainDid, plainLeft, plainOpened, stepOf, openedOf, recordsOf, eventOf, OpenedInC}
+use Rattle.promise_ways.specs.FromC.{PlainSide, sideOf, PlainEnds, PlainTurn, onA, onB, plainTurned, plainLastOf, PlainOverALine, bothOpenedInC}
+use Rattle.promise_ways.specs.Possible.{MakesInC, EveryRunFromC, askedInC, EveryLineFromC, TrafficInC, PossibleFromC}
+use Rattle.promise_ways.proofs.FromC.{step-back, opened-back, step-known, opened-known, endsOf, Known}
+
+-- one call
+
+-- a call on the records as one from C
+abbrev plainOf : Event → PlainEvent
+plainOf v = record { request = v .request; step = flatStep (v .step); lent = v .lent; buf = v .buf }
+
+stands-for : (v : Event) → eventOf (plainOf v) ≡ v
+stands-for v = ap (λ (r : Step). record { request = v .request; step = r; lent = v .lent; buf = v .buf }) (step-back (v .step))
+
+module _ (x : Plain) (k : isStrange (x .stream .ending) ≡ false) where
+  never : {A : Type 0} → isStrange (x .stream .ending) ≡ true → A
+  never z = absurd (true≢false (sym z ∙ k))
+
+  crosses : (call : Stream → Totals → Lent → Step → Lent → Type 0) (r : Step) (m : Lent) → call (streamOf (x .stream)) (totalsOf (x .totals)) (x .lent) r m
+      → Crosses call (x .stream) (x .totals) (x .lent) (flatStep r) m
+  crosses call r m d = record { known = λ z. record { step = r; does = d; flat = refl }; strange = never }
+
+  did-with : (q : Request) (r : Step) (m : Lent) (buf′ : Bytes) → DidWith (recordsOf x) q r m buf′ → PlainDidWith x q (flatStep r) m buf′
+  did-with (toWrite bytes) r m buf′ d = crosses _ r m d
+  did-with (toDeliver datagram clock) r m buf′ d = crosses _ r m d
+  did-with (toDrive clock) r m buf′ d = crosses _ r m d
+  did-with (toTake buf) r m buf′ d = (crosses _ r m d, never)
+  did-with (toRead buf) r m buf′ d = (crosses _ r m d, never)
+  did-with toClose r m buf′ d = crosses _ r m d
+
+  did-plain : (v : Event) → Did (recordsOf x) v → PlainDid x (plainOf v)
+  did-plain v d = did-with (v .request) (v .step) (v .lent) (v .buf) d
+
+-- what is left stands for what is left on the records
+left-for : (v : Event) → recordsOf (plainLeft (plainOf v)) ≡ left v
+left-for v = ap left (stands-for v)
+
+-- lists of calls on one end
+
+run-plain : (qs : List Request) (vs : List Event) (x : Plain) → isStrange (x .stream .ending) ≡ false → Makes qs vs (recordsOf x)
+    → (events : List PlainEvent) × MakesInC qs events x
+run-plain [] [] x k m = ([], tt)
+run-plain [] (v ∷ vs) x k m = absurd m
+run-plain (q ∷ qs) [] x k m = absurd m
+run-plain (q ∷ qs) (v ∷ vs) x k m =
+    let (e, d, n, rest) = m in
+    let (events, made) = run-plain qs vs (plainLeft (plainOf v)) (step-known (v .step)) (subst (Makes qs vs) (sym (left-for v)) rest) in
+    (plainOf v ∷ events, (e, did-plain x k v d, n, made))
+
+-- an open
+
+module _ (local remote segments clock : ℕ) (l : Lent) (o : Opened) (h : OpenedBy local remote segments clock l o) where
+  opens-plain : OpenedInC local remote segments clock l (flatOpened o)
+  unfolding flatOpened
+  opens-plain = record { opens = record { opened = o; does = h .opens; flat = refl }; ready = rw (h .ready) refl }
+
+-- the numbers that it hands out stand for its records
+opened-for : (o : Opened) (l : Lent) → recordsOf (plainOpened (flatOpened o) l) ≡ handedOut o l
+opened-for o l = ap (λ (r : Opened). handedOut r l) (opened-back o)
+
+pub every-run-from-c : EveryRunFromC
+every-run-from-c local remote segments clock l h =
+    let (o, by, runs) = every-run local remote segments clock l h in (
+      flatOpened o,
+      opens-plain local remote segments clock l o by,
+      λ requests.
+          (let (vs, m) = runs requests in
+          run-plain requests vs (plainOpened (flatOpened o) l) (opened-known o) (subst (Makes requests vs) (sym (opened-for o l)) m)),
+    )

@@ -1,0 +1,86 @@
+-- The hypotheses of the theorems from C are satisfiable: there are numbers, words and stores after each call that satisfy the contracts of
+-- the C functions, for every list of requests (`EveryRunFromC`), for whatever two ends of the model do over a line (`EveryLineFromC`), and
+-- for bytes that one end carries to the other (`PossibleFromC`). The same as promise/specs/Possible.antt, on plain numbers. Statements
+-- only: the proofs are proofs/Possible.antt. Assumes nothing.
+use Prim.Native.Nat.{ℕ, _≤_}
+use mathlib.Core.Path.{_≡_}
+use mathlib.Core.List.{List, [], _∷_}
+use lib.ListN.{length}
+use Rattle.model.specs.Lists.{Bytes}
+use Rattle.model.specs.TwoEnds as model
+use Rattle.model.specs.TwoEnds.{Id}
+use Rattle.records.specs.Seen.{Lent}
+use Rattle.promise.specs.Runs.{Request, toWrite, toDeliver, toDrive, toTake, toRead}
+use Rattle.promise.specs.Possible.{Sized, Openable, Asked, ofA, ofB, commandsFor}
+use Rattle.flat.specs.declared.structs.FlatStep.{FlatStep}
+use Rattle.promise_ways.specs.Calls.{Plain, PlainEvent, PlainDid, plainLeft, plainOpened, OpenedInC}
+use Rattle.promise_ways.specs.FromC.{PlainEnds, PlainTurn, onA, onB, plainLastOf, PlainOverALine, bothOpenedInC}
+
+-- one end
+
+-- each request was made, by a call that did what the contract of its C function says and left words of the same lengths
+abbrev pub MakesInC : List Request → List PlainEvent → Plain → Type 0
+MakesInC [] [] x = Unit {0}
+MakesInC [] (v ∷ vs) x = ⊥
+MakesInC (q ∷ qs) [] x = ⊥
+MakesInC (q ∷ qs) (v ∷ vs) x = (v .request ≡ q) × PlainDid x v × Sized (v .lent) × MakesInC qs vs (plainLeft v)
+
+-- Every list of requests, with any bytes to deliver, can be made from a `udx_open` that answered ok.
+abbrev pub EveryRunFromC : Type 0
+EveryRunFromC =
+    (local remote segments clock : ℕ) (l : Lent)
+    → Openable segments clock l
+    → (o : FlatStep)
+    × OpenedInC local remote segments clock l o
+    × ((requests : List Request) → (events : List PlainEvent) × MakesInC requests events (plainOpened o l))
+
+-- two ends
+
+abbrev pub askedInC : List PlainTurn → List Asked
+askedInC [] = []
+askedInC (onA v ∷ cs) = ofA (v .request) ∷ askedInC cs
+askedInC (onB v ∷ cs) = ofB (v .request) ∷ askedInC cs
+
+-- Every list of calls over a line that the model's `TwoEnds` speaks of can be made from C, so `TwoEndsFromC` speaks of it too.
+abbrev pub EveryLineFromC : Type 0
+EveryLineFromC =
+    (i j segmentsA segmentsB clockA clockB : ℕ) (lentA lentB : Lent)
+    → Openable segmentsA clockA lentA
+    → Openable segmentsB clockB lentB
+    → (a : FlatStep)
+    × (b : FlatStep)
+    × OpenedInC i j segmentsA clockA lentA a
+    × OpenedInC j i segmentsB clockB lentB b
+    × ((asked : List Asked)
+    → model.OverALine (commandsFor asked) (model.bothOpened i j segmentsA segmentsB clockA clockB)
+    → (turns : List PlainTurn) × (askedInC turns ≡ asked) × PlainOverALine turns (bothOpenedInC a b lentA lentB))
+
+-- bytes are written, driven and taken at a, and what was taken, one datagram, is delivered and read at b
+pub record TrafficInC (clockA clockB : ℕ) (bytes batch room : Bytes) (w : PlainEnds) : Type 0 where
+  pub turns : List PlainTurn
+  pub datagram : Bytes
+  pub asked : askedInC turns
+      ≡ ofA (toWrite bytes) ∷ ofA (toDrive clockA) ∷ ofA (toTake batch) ∷ ofB (toDeliver datagram clockB) ∷ ofB (toRead room) ∷ []
+  pub line : PlainOverALine turns w
+  pub accepted : plainLastOf turns w .a .past .accepted ≡ bytes
+  pub taken : plainLastOf turns w .a .past .taken ≡ datagram ∷ []
+  pub reads : plainLastOf turns w .b .past .reads ≡ bytes
+
+-- Such traffic can be had, of any bytes of one piece, with any buffers that a take and a read accept.
+abbrev pub PossibleFromC : Type 0
+PossibleFromC =
+    (i j segmentsA segmentsB clockA clockB : ℕ) (lentA lentB : Lent)
+    → Id i
+    → Id j
+    → Openable segmentsA clockA lentA
+    → Openable segmentsB clockB lentB
+    → (bytes batch room : Bytes)
+    → 1 ≤ length bytes
+    → length bytes ≤ 1_380
+    → 14_000 ≤ length batch
+    → length room ≡ 1_380
+    → (a : FlatStep)
+    × (b : FlatStep)
+    × OpenedInC i j segmentsA clockA lentA a
+    × OpenedInC j i segmentsB clockB lentB b
+    × TrafficInC clockA clockB bytes batch room (bothOpenedInC a b lentA lentB)
