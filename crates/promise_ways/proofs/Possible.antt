@@ -5,7 +5,6 @@ use Prim.Native.Nat.{ℕ}
 use mathlib.Core.Path.{_≡_, refl, sym, ap, ap₂, _∙_, subst}
 use mathlib.Core.Bool.{true, false, true≢false}
 use mathlib.Core.List.{List, [], _∷_}
-use Rattle.error.specs.declared.Outcome.{Outcome}
 use Rattle.model.specs.Lists.{Bytes}
 use Rattle.model.specs.TwoEnds.{noHistory}
 use Rattle.records.specs.declared.Stream.{Stream}
@@ -15,14 +14,13 @@ use Rattle.records.specs.Seen.{Lent}
 use Rattle.answers.specs.declared.step.Step.{Step}
 use Rattle.promise.specs.Runs.{Records, Request, toWrite, toDeliver, toDrive, toTake, toRead, toClose, Event, left, DidWith, Did, OpenedBy, handedOut}
 use Rattle.promise.specs.TwoEndsOnRecords as records
-use Rattle.promise.specs.Possible.{Makes, Asked, ofA, ofB, askedBy}
+use Rattle.promise.specs.Possible.{Makes, Asked, ofA, ofB, askedBy, Traffic}
 use Rattle.promise.proofs.EveryCall.{every-run}
 use Rattle.promise.proofs.Possible.{every-line, possible}
-use Rattle.flat.specs.declared.structs.FlatStep.{FlatStep}
 use Rattle.flat.specs.Bytes.{isStrange}
 use Rattle.flat.specs.Flat.{streamOf, totalsOf, flatStep, flatOpened}
 use Rattle.udx_c.specs.Crosses.{Crosses}
-use Rattle.promise_ways.specs.Calls.{Plain, PlainEvent, PlainDidWith, PlainDid, plainLeft, plainOpened, stepOf, openedOf, recordsOf, eventOf, OpenedInC}
+use Rattle.promise_ways.specs.Calls.{Plain, PlainEvent, PlainDidWith, PlainDid, plainLeft, plainOpened, stepOf, recordsOf, eventOf, OpenedInC}
 use Rattle.promise_ways.specs.FromC.{PlainSide, sideOf, PlainEnds, PlainTurn, onA, onB, plainTurned, plainLastOf, PlainOverALine, bothOpenedInC}
 use Rattle.promise_ways.specs.Possible.{MakesInC, EveryRunFromC, askedInC, EveryLineFromC, TrafficInC, PossibleFromC}
 use Rattle.promise_ways.proofs.FromC.{step-back, opened-back, step-known, opened-known, endsOf, Known}
@@ -90,4 +88,89 @@ every-run-from-c local remote segments clock l h =
       λ requests.
           (let (vs, m) = runs requests in
           run-plain requests vs (plainOpened (flatOpened o) l) (opened-known o) (subst (Makes requests vs) (sym (opened-for o l)) m)),
+    )
+
+-- lists of calls on two ends
+
+record InC (turns : List records.Turn) (p : PlainEnds) : Type 0 where
+  plain : List PlainTurn
+  asked : askedInC plain ≡ askedBy turns
+  line : PlainOverALine plain p
+  last : endsOf (plainLastOf plain p) ≡ records.lastOf turns (endsOf p)
+
+-- what was brought is told by the outcome
+brings : (v : Event) (y : PlainSide) → records.Brings (v .request) (v .step .outcome) (sideOf y) → records.Brings (v .request) (stepOf (flatStep (v .step)) .outcome) (sideOf y)
+brings v y b = subst (λ (r : Step). records.Brings (v .request) (r .outcome) (sideOf y)) (sym (step-back (v .step))) b
+
+line-plain : (turns : List records.Turn) (p : PlainEnds) → Known p → records.OverALine turns (endsOf p) → InC turns p
+line-plain [] p k f = record { plain = []; asked = refl; line = tt; last = refl }
+line-plain (records.onA v ∷ cs) p k f =
+    let next = ap (λ (u : Event). records.turned (records.onA u) (endsOf p)) (stands-for v) in
+    let p′ = plainTurned (onA (plainOf v)) p in
+    let rest = line-plain cs p′ (step-known (v .step), k .1) (subst (records.OverALine cs) (sym next) (f .1)) in
+    record {
+      plain = onA (plainOf v) ∷ rest .plain;
+      asked = ap (λ (a : List Asked). ofA (v .request) ∷ a) (rest .asked);
+      line = ((did-plain (p .a .plain) (k .0) v (f .0 .0), brings v (p .b) (f .0 .1)), rest .line);
+      last = rest .last ∙ ap (records.lastOf cs) next;
+    }
+line-plain (records.onB v ∷ cs) p k f =
+    let next = ap (λ (u : Event). records.turned (records.onB u) (endsOf p)) (stands-for v) in
+    let p′ = plainTurned (onB (plainOf v)) p in
+    let rest = line-plain cs p′ (k .0, step-known (v .step)) (subst (records.OverALine cs) (sym next) (f .1)) in
+    record {
+      plain = onB (plainOf v) ∷ rest .plain;
+      asked = ap (λ (a : List Asked). ofB (v .request) ∷ a) (rest .asked);
+      line = ((did-plain (p .b .plain) (k .1) v (f .0 .0), brings v (p .a) (f .0 .1)), rest .line);
+      last = rest .last ∙ ap (records.lastOf cs) next;
+    }
+
+module _ (a b : Opened) (lentA lentB : Lent) where
+  abbrev start : PlainEnds
+  start = bothOpenedInC (flatOpened a) (flatOpened b) lentA lentB
+
+  start-for : endsOf start ≡ records.bothOpened a b lentA lentB
+  start-for =
+      ap₂ (λ (x : Records) (y : Records). record { a = record { records = x; past = noHistory }; b = record { records = y; past = noHistory } })
+      (opened-for a lentA) (opened-for b lentB)
+
+  from-open : (turns : List records.Turn) → records.OverALine turns (records.bothOpened a b lentA lentB) → InC turns start
+  from-open turns f = line-plain turns start (opened-known a, opened-known b) (subst (records.OverALine turns) (sym start-for) f)
+
+pub every-line-from-c : EveryLineFromC
+every-line-from-c i j segmentsA segmentsB clockA clockB lentA lentB hA hB =
+    let (a, b, openA, openB, lines) = every-line i j segmentsA segmentsB clockA clockB lentA lentB hA hB in (
+      flatOpened a,
+      flatOpened b,
+      opens-plain i j segmentsA clockA lentA a openA,
+      opens-plain j i segmentsB clockB lentB b openB,
+      λ asked f.
+          (let (turns, are, line) = lines asked f in
+          let c = from-open a b lentA lentB turns line in
+          (c .plain, c .asked ∙ are, c .line)),
+    )
+
+traffic : (clockA clockB : ℕ) (bytes batch room : Bytes) (a b : Opened) (lentA lentB : Lent)
+    → Traffic clockA clockB bytes batch room (records.bothOpened a b lentA lentB) → TrafficInC clockA clockB bytes batch room (start a b lentA lentB)
+traffic clockA clockB bytes batch room a b lentA lentB t =
+    let c = from-open a b lentA lentB (t .turns) (t .line) in
+    let last = c .last ∙ ap (records.lastOf (t .turns)) (start-for a b lentA lentB) in
+    record {
+      turns = c .plain;
+      datagram = t .datagram;
+      asked = c .asked ∙ t .asked;
+      line = c .line;
+      accepted = ap (λ (w : records.Ends). w .a .past .accepted) last ∙ t .accepted;
+      taken = ap (λ (w : records.Ends). w .a .past .taken) last ∙ t .taken;
+      reads = ap (λ (w : records.Ends). w .b .past .reads) last ∙ t .reads;
+    }
+
+pub possible-from-c : PossibleFromC
+possible-from-c i j segmentsA segmentsB clockA clockB lentA lentB idI idJ hA hB bytes batch room some-bytes one-piece large size =
+    let (a, b, openA, openB, t) = possible i j segmentsA segmentsB clockA clockB lentA lentB idI idJ hA hB bytes batch room some-bytes one-piece large size in (
+      flatOpened a,
+      flatOpened b,
+      opens-plain i j segmentsA clockA lentA a openA,
+      opens-plain j i segmentsB clockB lentB b openB,
+      traffic clockA clockB bytes batch room a b lentA lentB t,
     )
