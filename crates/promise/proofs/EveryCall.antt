@@ -39,7 +39,7 @@ use Rattle.promise.specs.Runs.{Records, seenOf, Request, toWrite, toDeli
 use Rattle.promise.specs.Possible.{Sized, Openable, Makes, EveryRun}
 use Rattle.promise.proofs.LaidOut.{laid, LaidAs, laid-as}
 use Rattle.promise.proofs.Runs.{on-laid, stands-next, open-stands}
-use Rattle.promise.proofs.EveryRead.{give}
+use Rattle.promise.proofs.EveryRead.{ready-acts, give}
 
 -- a refused call changes nothing
 
@@ -51,9 +51,6 @@ same-refusal e w why h = let z : w ≡ why = cc in ap (λ x. refused x e) z
 
 acts-quiet : (e : End) (a : Answer) → ((why : Refusal) → a .outcome ≡ Refused why → ⊥) → Quiet e a
 acts-quiet e a h why z = absurd (h why z)
-
-ready-acts : (why : Refusal) → Ready ≡ Refused why → ⊥
-ready-acts why z = let y : _≡_ {A = ℕ} 0 1 = cc in omega arith
 
 waiting-acts : (why : Refusal) → Waiting ≡ Refused why → ⊥
 waiting-acts why z = let y : _≡_ {A = ℕ} 0 1 = cc in omega arith

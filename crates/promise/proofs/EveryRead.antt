@@ -68,7 +68,8 @@ other error.ConnectionReset q = let z : _≡_ {A = ℕ} 0 1 = cc in omega arith
 other error.UnexpectedEof q = let z : _≡_ {A = ℕ} 0 1 = cc in omega arith
 other error.TimedOut q = let z : _≡_ {A = ℕ} 0 1 = cc in omega arith
 
-ready-acts : (why : Refusal) → Ready ≡ Refused why → ⊥
+-- a call that is ready is not refused
+pub ready-acts : (why : Refusal) → Ready ≡ Refused why → ⊥
 ready-acts why z = let y : _≡_ {A = ℕ} 0 1 = cc in omega arith
 
 held-says : (b : Bool) (v h : model.Held) → cond b (some v) none ≡ some h → (b ≡ true) × (v ≡ h)

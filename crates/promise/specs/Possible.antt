@@ -26,7 +26,8 @@ pub record Sized (l : Lent) : Type 0 where
   pub held : length (l .held) ≡ 32
   pub queue : length (l .queue) ≡ 128
 
--- ceiling and clock that open accepts, stores of 01's lengths with any bytes in them, and words that may hold anything
+-- 01, call 1: "Open: both ids, segment ceiling 1 to 10, clock"; ceiling and clock are accepted, the stores have 01's lengths and any bytes
+-- in them, and the words may hold anything
 pub record Openable (segments clock : ℕ) (l : Lent) : Type 0 where
   pub accepted : openRefusal segments clock ≡ none
   pub stores : storesTest (l .outgoing) (l .incoming) (l .headers) ≡ false
@@ -77,7 +78,8 @@ EveryLine =
     → model.OverALine (commandsFor asked) (model.bothOpened i j segmentsA segmentsB clockA clockB)
     → (turns : List Turn) × (askedBy turns ≡ asked) × OverALine turns (bothOpened a b lentA lentB))
 
--- bytes are written, driven and taken at a, and what was taken, one datagram, is delivered and read at b
+-- 01, 'Calls', 2 to 6: bytes are written, driven and taken at a, and "a copy of such a datagram", the one that was taken, is delivered and
+-- read at b
 pub record Traffic (clockA clockB : ℕ) (bytes batch room : Bytes) (w : Ends) : Type 0 where
   pub turns : List Turn
   pub datagram : Bytes

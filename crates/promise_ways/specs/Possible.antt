@@ -55,7 +55,8 @@ EveryLineFromC =
     → model.OverALine (commandsFor asked) (model.bothOpened i j segmentsA segmentsB clockA clockB)
     → (turns : List PlainTurn) × (askedInC turns ≡ asked) × PlainOverALine turns (bothOpenedInC a b lentA lentB))
 
--- bytes are written, driven and taken at a, and what was taken, one datagram, is delivered and read at b
+-- 01, 'Calls', 2 to 6: bytes are written, driven and taken at a, and "a copy of such a datagram", the one that was taken, is delivered and
+-- read at b
 pub record TrafficInC (clockA clockB : ℕ) (bytes batch room : Bytes) (w : PlainEnds) : Type 0 where
   pub turns : List PlainTurn
   pub datagram : Bytes
