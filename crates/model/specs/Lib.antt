@@ -10,11 +10,7 @@ pub mod Driving
 pub mod SackBlocks
 pub mod Order
 pub mod Calls
-pub mod NeverBroken
-pub mod TwoEnds
 pub mod Edges
 pub mod Examples
-pub mod Alive
 pub mod RulesKept
 pub mod NotDead
-pub mod Traffic

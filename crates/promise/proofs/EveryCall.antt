@@ -25,8 +25,8 @@ use Rattle.model.specs.Driving as model-out
 use Rattle.model.specs.Calls.{writeCall, deliverCall, driveCall, takeCall, closeCall}
 use Rattle.model.proofs.Lists.{All, by-test}
 use Rattle.model.proofs.Gate.{by-gate}
-use Rattle.model.proofs.Invariant.{EntryIn, Left, atRest, toTake, Invariant}
-use Rattle.model.proofs.InvariantCalls.{call-keeps}
+use Rattle.model_rules.proofs.Invariant.{EntryIn, Left, atRest, toTake, Invariant}
+use Rattle.model_rules.proofs.InvariantCalls.{call-keeps}
 use Rattle.records.specs.declared.opening.Opened.{Opened}
 use Rattle.records.specs.Put.{put}
 use Rattle.records.specs.Seen.{Lent}

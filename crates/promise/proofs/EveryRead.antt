@@ -26,8 +26,8 @@ use Rattle.model.specs.Calls.{readCall}
 use Rattle.model.proofs.Gate.{gate-open}
 use Rattle.model.proofs.Slots.{no-some, some-inj}
 use Rattle.model.proofs.SlotSums.{slots-look}
-use Rattle.model.proofs.Invariant.{HeldFacts, Invariant, invariant-rules}
-use Rattle.model.proofs.InvariantCalls.{call-keeps}
+use Rattle.model_rules.proofs.Invariant.{HeldFacts, Invariant, invariant-rules}
+use Rattle.model_rules.proofs.InvariantCalls.{call-keeps}
 use Rattle.words.specs.declared.Held.{Held}
 use Rattle.words.specs.Words.{isHeld, heldOf, heldWord}
 use Rattle.words.proofs.WordLaws.{held-back, held-full}

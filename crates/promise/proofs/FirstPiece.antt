@@ -20,9 +20,9 @@ use Rattle.model.specs.Driving.{settleLoop, restarted, settle, due, checkTimeou
 use Rattle.model.proofs.Lists.{by-test}
 use Rattle.model.proofs.Gate.{by-gate, clear}
 use Rattle.model.proofs.Slots.{insert-same, none-length}
-use Rattle.model.proofs.InvariantCalls.{or-false}
-use Rattle.model.proofs.LineTake.{whole-joined}
-use Rattle.model.proofs.AliveWrite.{Sends, not-empty, goes-now}
+use Rattle.model_rules.proofs.InvariantCalls.{or-false}
+use Rattle.model_ends.proofs.LineTake.{whole-joined}
+use Rattle.model_alive.proofs.AliveWrite.{Sends, not-empty, goes-now}
 
 -- a call that answers ready acts
 

@@ -14,7 +14,7 @@ use Rattle.model.specs.Slots.{Numbered, ceiling}
 use Rattle.model.specs.Rules.{states, numbers}
 use Rattle.model.specs.Stream as model
 use Rattle.model.proofs.Lists.{All, all-map}
-use Rattle.model.proofs.Invariant.{EntryIn, Left, atRest, toTake, Invariant, ascending-length}
+use Rattle.model_rules.proofs.Invariant.{EntryIn, Left, atRest, toTake, Invariant, ascending-length}
 use Rattle.records.specs.declared.StreamState.{StreamState}
 use Rattle.records.specs.declared.StreamState.the-variants as state
 use Rattle.records.specs.declared.Stream.{Stream}

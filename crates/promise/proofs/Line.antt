@@ -8,9 +8,9 @@ use lib.Dec.{T}
 use Rattle.error.specs.declared.Outcome.{Outcome}
 use Rattle.model.specs.Answers.{Answer}
 use Rattle.model.specs.Calls.{answer}
-use Rattle.model.specs.TwoEnds as model
-use Rattle.model.specs.TwoEnds.{History, isRefused}
-use Rattle.model.proofs.Invariant.{Invariant}
+use Rattle.model_ends.specs.TwoEnds as model
+use Rattle.model_ends.specs.TwoEnds.{History, isRefused}
+use Rattle.model_rules.proofs.Invariant.{Invariant}
 use Rattle.promise.specs.Runs.{seenOf, Request, toWrite, toDeliver, toDrive, toTake, toRead, toClose, callOf, Event, left, Did, answerOf}
 use Rattle.promise.specs.TwoEndsOnRecords.{noted, Side, happened, Ends, Turn, onA, onB, turned, lastOf, Brings, Fits, FitsEnds, OverALine}
 use Rattle.promise.proofs.Runs.{Stands, stands-answer, stands-next}

@@ -16,10 +16,10 @@ use Rattle.model.specs.Calls.{answer}
 use Rattle.model.specs.Sending as model
 use Rattle.model.specs.Receiving as model-in
 use Rattle.model.specs.Driving as model-out
-use Rattle.model.specs.TwoEnds as two-ends
-use Rattle.model.specs.TwoEnds.{isRefused, noHistory, Id}
-use Rattle.model.proofs.AliveWrite.{fresh-write}
-use Rattle.model.proofs.AliveCarried.{carried-once}
+use Rattle.model_ends.specs.TwoEnds as two-ends
+use Rattle.model_ends.specs.TwoEnds.{isRefused, noHistory, Id}
+use Rattle.model_alive.proofs.AliveWrite.{fresh-write}
+use Rattle.model_alive.proofs.AliveCarried.{carried-once}
 use Rattle.records.specs.declared.opening.Opened.{Opened}
 use Rattle.records.specs.Seen.{Lent}
 use Rattle.promise.specs.Runs.{seenOf, Request, toWrite, toDeliver, toDrive, toTake, toRead, toClose, callOf, Event, Did}

@@ -23,9 +23,9 @@ use Rattle.model.specs.Driving as model-out
 use Rattle.model.specs.Calls.{answer, after}
 use Rattle.model.proofs.Lists.{by-test}
 use Rattle.model.proofs.Gate.{by-gate, clear}
-use Rattle.model.proofs.Invariant.{Invariant}
-use Rattle.model.proofs.InvariantCalls.{open-keeps, call-keeps}
-use Rattle.model.proofs.NeverBroken.{never-broken}
+use Rattle.model_rules.proofs.Invariant.{Invariant}
+use Rattle.model_rules.proofs.InvariantCalls.{open-keeps, call-keeps}
+use Rattle.model_rules.proofs.NeverBroken.{never-broken}
 use Rattle.records.specs.declared.opening.Opened.{Opened}
 use Rattle.records.specs.Put.{put}
 use Rattle.records.specs.Seen.{Lent, seen}

@@ -12,9 +12,9 @@ use borrow.Author.Tests.{eqb-true, ltb-true, ltb-false}
 use Rattle.model.specs.Lists.{Bytes}
 use Rattle.model.specs.Slots.{ceiling, get}
 use Rattle.model.specs.Stream.{Packet, Held}
-use Rattle.model.specs.TwoEnds as model
+use Rattle.model_ends.specs.TwoEnds as model
 use Rattle.model.proofs.Gate.{and-left}
-use Rattle.model.proofs.Invariant.{StoredIn, HeldFacts}
+use Rattle.model_rules.proofs.Invariant.{StoredIn, HeldFacts}
 use Rattle.model.proofs.Slots.{no-some, some-inj}
 use Rattle.model.proofs.SlotSums.{slots-look}
 use Rattle.words.specs.Words.{sentIn, isStored, isHeld}

@@ -5,10 +5,10 @@ use Prim.Native.Nat.{ℕ}
 use mathlib.Core.Path.{_≡_, refl, sym, ap, ap₂, _∙_, subst}
 use mathlib.Core.List.{List, [], _∷_, _++_}
 use Rattle.model.specs.Stream.{End}
-use Rattle.model.specs.TwoEnds as model
-use Rattle.model.specs.TwoEnds.{noHistory, Id}
-use Rattle.model.proofs.Invariant.{Invariant}
-use Rattle.model.proofs.TwoEnds.{two-ends}
+use Rattle.model_ends.specs.TwoEnds as model
+use Rattle.model_ends.specs.TwoEnds.{noHistory, Id}
+use Rattle.model_rules.proofs.Invariant.{Invariant}
+use Rattle.model_ends.proofs.TwoEnds.{two-ends}
 use Rattle.records.specs.declared.opening.Opened.{Opened}
 use Rattle.records.specs.Seen.{Lent, seen}
 use Rattle.promise.specs.Runs.{OpenedBy}

@@ -17,8 +17,8 @@ use Rattle.model.specs.Stream.{Held, Receiver, End}
 use Rattle.model.specs.Answers.{Answer}
 use Rattle.model.specs.Receiving.{Got, rest, finished, gotNone, gotFront, gotWhole, readLoop, readNext, readAnswer, readRefusal, read}
 use Rattle.model.specs.Calls.{answer}
-use Rattle.model.specs.TwoEnds as model
-use Rattle.model.specs.TwoEnds.{unreadLoop, unreadInOrder}
+use Rattle.model_ends.specs.TwoEnds as model
+use Rattle.model_ends.specs.TwoEnds.{unreadLoop, unreadInOrder}
 use Rattle.model.proofs.Lists.{by-test}
 use Rattle.model.proofs.Gate.{by-gate}
 use Rattle.records.specs.Seen.{seen}

@@ -10,8 +10,8 @@ use mathlib.Core.Bool.{false}
 use lib.ListN.{length}
 use Rattle.model.specs.Lists.{Bytes}
 use Rattle.model.specs.Sending.{openRefusal}
-use Rattle.model.specs.TwoEnds as model
-use Rattle.model.specs.TwoEnds.{Id}
+use Rattle.model_ends.specs.TwoEnds as model
+use Rattle.model_ends.specs.TwoEnds.{Id}
 use Rattle.records.specs.declared.opening.Opened.{Opened}
 use Rattle.records.specs.Seen.{Lent}
 use Rattle.records.specs.Open.{storesTest}

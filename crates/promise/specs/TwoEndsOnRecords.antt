@@ -16,7 +16,7 @@ use Rattle.model.specs.Lists.{Bytes, joined, cut}
 use Rattle.model.specs.Slots.{get}
 use Rattle.model.specs.Stream.{Packet, Held}
 use Rattle.model.specs.Driving.{datagramsOf}
-use Rattle.model.specs.TwoEnds.{History, noHistory, isRefused, dataNumber, unreadInOrder, Id}
+use Rattle.model_ends.specs.TwoEnds.{History, noHistory, isRefused, dataNumber, unreadInOrder, Id}
 use Rattle.records.specs.declared.opening.Opened.{Opened}
 use Rattle.records.specs.Seen.{Lent}
 use Rattle.answers.specs.declared.step.Step.{Step}

@@ -7,7 +7,7 @@ use mathlib.Core.List.{List, [], _∷_}
 use Rattle.model.specs.Stream.{End, fresh}
 use Rattle.model.specs.Driving.{look}
 use Rattle.model.specs.Calls.{answer, after}
-use Rattle.model.specs.TwoEnds.{History, noHistory, unreadInOrder, Id}
+use Rattle.model_ends.specs.TwoEnds.{History, noHistory, unreadInOrder, Id}
 use Rattle.records.specs.Seen.{Lent}
 use Rattle.promise.specs.Runs.{seenOf, callOf, callsOf, answerOf, Same}
 use Rattle.promise.specs.TwoEndsOnRecords.{noted, Side, Brings, IsRead, putByReads, Carried}

@@ -11,7 +11,7 @@ use Rattle.error.specs.declared.Refusal.the-variants.{BrokenRecords}
 use Rattle.error.specs.declared.Outcome.the-variants.{Refused}
 use Rattle.model.specs.Stream.{End, fresh}
 use Rattle.model.specs.Calls.{answer, after}
-use Rattle.model.specs.TwoEnds.{unreadInOrder, Id}
+use Rattle.model_ends.specs.TwoEnds.{unreadInOrder, Id}
 use Rattle.records.specs.declared.opening.Opened.{Opened}
 use Rattle.records.specs.Seen.{Lent}
 use Rattle.promise.specs.Runs.{Records, seenOf, callOf, Event, left, Did, answerOf, lastOf, callsOf, OpenedBy, handedOut, Same}

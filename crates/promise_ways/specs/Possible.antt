@@ -7,8 +7,8 @@ use mathlib.Core.Path.{_≡_}
 use mathlib.Core.List.{List, [], _∷_}
 use lib.ListN.{length}
 use Rattle.model.specs.Lists.{Bytes}
-use Rattle.model.specs.TwoEnds as model
-use Rattle.model.specs.TwoEnds.{Id}
+use Rattle.model_ends.specs.TwoEnds as model
+use Rattle.model_ends.specs.TwoEnds.{Id}
 use Rattle.records.specs.Seen.{Lent}
 use Rattle.promise.specs.Runs.{Request, toWrite, toDeliver, toDrive, toTake, toRead}
 use Rattle.promise.specs.Possible.{Sized, Openable, Asked, ofA, ofB, commandsFor}

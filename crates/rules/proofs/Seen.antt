@@ -7,7 +7,7 @@ use lib.ListN.{length}
 use Rattle.model.specs.Rules.{rules, rttRanges, clockRanges, segmentsRange, senderNumbers, receiverNumbers, everySlot, storedTest, heldTest, inflightSums, cwndRange, every, entryTest, queueTest}
 use Rattle.model.proofs.Gate.{and-left, and-right, and-true}
 use Rattle.model.proofs.RulesKept.{rules-say}
-use Rattle.model.proofs.NeverBroken.{never-broken}
+use Rattle.model_rules.proofs.NeverBroken.{never-broken}
 use Rattle.records.specs.declared.Stream.{Stream}
 use Rattle.records.specs.declared.Totals.{Totals}
 use Rattle.records.specs.Seen.{Lent, seen, formed, formedReceiver, formedQueue}

@@ -1,0 +1,4 @@
+pub mod AliveWrite
+pub mod AliveCarried
+pub mod AliveDue
+pub mod Traffic

@@ -1,0 +1,9 @@
+pub mod Line
+pub mod LineReceiver
+pub mod LineSender
+pub mod LineDrive
+pub mod LineWrite
+pub mod LineTake
+pub mod LineRead
+pub mod LineDeliver
+pub mod TwoEnds

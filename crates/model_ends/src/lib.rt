@@ -1,0 +1,1 @@
+// What two ends of the model carry: definitions in specs/, theorems in proofs/; no code.

@@ -1,0 +1,13 @@
+pub mod Ranges
+pub mod Invariant
+pub mod InvariantSteps
+pub mod InvariantMarks
+pub mod InvariantSend
+pub mod InvariantRead
+pub mod InvariantTake
+pub mod InvariantDrive
+pub mod InvariantDeliver
+pub mod InvariantCalls
+pub mod NeverBroken
+pub mod RulesStay
+pub mod Endings

@@ -1,0 +1,1 @@
+// What the calls of the model keep: definitions in specs/, theorems in proofs/; no code.
