@@ -7,6 +7,7 @@ use mathlib.Core.Logic.{inl, inr}
 use mathlib.Core.List.{List, [], _∷_, List·Memᴰ, List·Memᴰ·head}
 use lib.Dec.{T}
 use lib.ListN.{length, take}
+use borrow.Author.Tests.{le-ltb}
 use lib.Seq.{take-length}
 use Rattle.error.specs.declared.Outcome.{Outcome}
 use Rattle.model.specs.Lists.{Bytes}
@@ -16,10 +17,11 @@ use Rattle.model.specs.Calls.{answer}
 use Rattle.model.specs.Sending as model
 use Rattle.model.specs.Receiving as model-in
 use Rattle.model.specs.Driving as model-out
+use Rattle.model.specs.Driving.{takeRefusal}
 use Rattle.model_ends.specs.TwoEnds as two-ends
 use Rattle.model_ends.specs.TwoEnds.{isRefused, noHistory, Id}
-use Rattle.model_alive.proofs.AliveWrite.{fresh-write}
-use Rattle.model_alive.proofs.AliveCarried.{carried-once}
+use Rattle.model_alive.specs.Traffic.{CarriesOnce, pieceCommands}
+use Rattle.model_alive.proofs.Traffic.{piece-carries}
 use Rattle.records.specs.declared.opening.Opened.{Opened}
 use Rattle.records.specs.Seen.{Lent}
 use Rattle.promise.specs.Runs.{seenOf, Request, toWrite, toDeliver, toDrive, toTake, toRead, toClose, callOf, Event, Did}
@@ -28,7 +30,6 @@ use Rattle.promise.specs.Possible.{Openable, Asked, ofA, ofB, askedBy, c
 use Rattle.promise.proofs.Runs.{stands-answer, open-stands}
 use Rattle.promise.proofs.Line.{seenSide, seenEnds, commandsOf, Laid, call-same, run-same}
 use Rattle.promise.proofs.EveryCall.{Stand, make, freshOpened, can-open, open-stand}
-use Rattle.promise.proofs.FirstPiece.{more-room, first-taken}
 
 -- one call
 
@@ -125,6 +126,11 @@ every-line i j segmentsA segmentsB clockA clockB lentA lentB hA hB = (
 
 -- one piece
 
+-- a larger buffer changes nothing
+more-room : (room : ℕ) (e : End) → 14_000 ≤ room → model-out.take room e ≡ model-out.take 14_000 e
+unfolding model-out.take takeRefusal
+more-room room e l = rw (le-ltb room 14_000 l) refl
+
 module _ (i j segmentsA segmentsB clockA clockB : ℕ) (lentA lentB : Lent) (idI : Id i) (idJ : Id j) (hA : Openable segmentsA clockA lentA)
     (hB : Openable segmentsB clockB lentB) (bytes batch room : Bytes) (some-bytes : 1 ≤ length bytes) (one-piece : length bytes ≤ 1_380)
     (large : 14_000 ≤ length batch) (size : length room ≡ 1_380) where
@@ -147,21 +153,16 @@ module _ (i j segmentsA segmentsB clockA clockB : ℕ) (lentA lentB : Lent) (idI
   same-take : took ≡ model-out.take 14_000 (drove .end)
   same-take = more-room (length batch) (drove .end) large
 
+  -- what the model carries, with a take into 14,000 bytes
+  carries : CarriesOnce bytes ((model-out.take 14_000 (drove .end)) .bytes)
+      (pieceCommands bytes ((model-out.take 14_000 (drove .end)) .bytes) clockA clockB) (two-ends.bothOpened i j segmentsA segmentsB clockA clockB)
+  carries = piece-carries i j segmentsA segmentsB clockA clockB idI idJ (hA .accepted) (hB .accepted) bytes some-bytes one-piece
+
   one-datagram : model-out.datagramsOf (took .segment) (took .bytes) ≡ took .bytes ∷ []
-  one-datagram =
-      let (w, d, t, h, r, e) = carried-once i j segmentsA segmentsB clockA clockB idI idJ (hA .accepted) (hB .accepted) bytes some-bytes one-piece in
-      first-taken i j segmentsA clockA (hA .accepted) bytes some-bytes one-piece (length batch) w d (ap (λ (a : Answer). a .outcome) same-take ∙ t)
+  one-datagram = rw same-take (carries .taken)
 
   bytes-read : read .bytes ≡ bytes
-  bytes-read =
-      let (w, d, t, h, r, e) = carried-once i j segmentsA segmentsB clockA clockB idI idJ (hA .accepted) (hB .accepted) bytes some-bytes one-piece in
-      ap₂ (λ (k : ℕ) (x : Bytes). (model-in.read k ((model-in.deliver x clockB (fresh j i segmentsB clockB)) .end)) .bytes) size (ap (λ (a : Answer). a .bytes) same-take) ∙ e
-
-  all-accepted : take (wrote .count) bytes ≡ bytes
-  all-accepted =
-      let (o, c) = fresh-write i j segmentsA clockA (hA .accepted) bytes in
-      let k : wrote .count ≡ length bytes = c ∙ (let m : min (length bytes) 2_760 ≡ length bytes = omega arith in m) in
-      rw k (take-length bytes)
+  bytes-read = rw (same-take, size) (carries .reads)
 
   abbrev five : List Asked
   five = ofA (toWrite bytes) ∷ ofA (toDrive clockA) ∷ ofA (toTake batch) ∷ ofB (toDeliver (took .bytes) clockB) ∷ ofB (toRead room) ∷ []
@@ -178,7 +179,7 @@ module _ (i j segmentsA segmentsB clockA clockB : ℕ) (lentA lentB : Lent) (idI
         datagram = took .bytes;
         asked = l .are;
         line = l .line;
-        accepted = ap (λ (w : two-ends.Ends). w .a .past .accepted) e ∙ all-accepted;
+        accepted = ap (λ (w : two-ends.Ends). w .a .past .accepted) e ∙ carries .accepted;
         taken = ap (λ (w : two-ends.Ends). w .a .past .taken) e ∙ one-datagram;
         reads = ap (λ (w : two-ends.Ends). w .b .past .reads) e ∙ bytes-read;
       }
