@@ -4,15 +4,17 @@
 -- Assumes nothing.
 use Prim.Native.Nat.{ℕ}
 use mathlib.Core.Path.{_≡_}
-use mathlib.Core.List.{List, [], _∷_}
+use mathlib.Core.List.{List, [], _∷_, map}
 use lib.ListN.{length, replicate}
 use Rattle.error.specs.declared.UdxError.the-variants as error
+use Rattle.error.specs.declared.Refusal.the-variants as refusal
 use Rattle.error.specs.declared.Outcome.{Outcome}
-use Rattle.error.specs.declared.Outcome.the-variants.{Ready, Waiting, Nothing}
+use Rattle.error.specs.declared.Outcome.the-variants.{Ready, Waiting, Done, Nothing, Refused}
 use Rattle.model.specs.Lists.{Bytes, on}
 use Rattle.model.specs.Slots.{get}
-use Rattle.model.specs.Stream.{packet, End, fresh}
+use Rattle.model.specs.Stream.{packet, localClosed, bothClosed, End, fresh}
 use Rattle.model.specs.Answers.{Answer}
+use Rattle.model.specs.Driving.{look}
 use Rattle.model.specs.Calls.{Call, writeCall, deliverCall, driveCall, takeCall, readCall, closeCall, answer, after}
 
 -- a line of the session: outcome, count and bytes read
@@ -33,28 +35,38 @@ aaa = 65 ∷ 65 ∷ 65 ∷ []
 abbrev bcd : Bytes
 bcd = 66 ∷ 67 ∷ 68 ∷ []
 
--- DATA for stream 2: type 1, seq n, ack 0
+-- a datagram by its type, stream, seq and ack, each below 256
+abbrev datagramOf : (typ stream seq ack : ℕ) → Bytes → Bytes
+datagramOf typ stream seq ack payload =
+    255 ∷ 1 ∷ typ ∷ 0 ∷ stream ∷ 0 ∷ 0 ∷ 0 ∷ 255 ∷ 255 ∷ 255 ∷ 255 ∷ seq ∷ 0 ∷ 0 ∷ 0 ∷ ack ∷ 0 ∷ 0 ∷ 0 ∷ payload
+
+-- DATA number n for stream 2
 abbrev dataOf : ℕ → Bytes → Bytes
-dataOf n payload = 255 ∷ 1 ∷ 1 ∷ 0 ∷ 2 ∷ 0 ∷ 0 ∷ 0 ∷ 255 ∷ 255 ∷ 255 ∷ 255 ∷ n ∷ 0 ∷ 0 ∷ 0 ∷ 0 ∷ 0 ∷ 0 ∷ 0 ∷ payload
+dataOf n payload = datagramOf 1 2 n 0 payload
 
 -- the example's datagram
 abbrev pub datagram : Bytes
 datagram = dataOf 0 aaa
+
+-- a state packet for stream 1 with this ack
+abbrev ackOf : ℕ → Bytes
+ackOf n = datagramOf 0 1 0 n []
+
+-- a state packet with END
+abbrev endOf : ℕ → Bytes
+endOf stream = datagramOf 2 stream 0 0 []
+
+-- a state packet for stream 1 with one SACK block, from 1 to below 2
+abbrev sack : Bytes
+sack = datagramOf 4 1 0 0 (1 ∷ 0 ∷ 0 ∷ 0 ∷ 2 ∷ 0 ∷ 0 ∷ 0 ∷ 0 ∷ [])
 
 -- the line of each call, with the end that it leaves handed on
 abbrev linesOf : List Call → End → List Line
 linesOf [] e = []
 linesOf (c ∷ cs) e = let a = answer c e in lineOf a ∷ linesOf cs (a .end)
 
--- a state packet for stream 1 that acknowledges number 0
-abbrev ack : Bytes
-ack = 255 ∷ 1 ∷ 0 ∷ 0 ∷ 1 ∷ 0 ∷ 0 ∷ 0 ∷ 255 ∷ 255 ∷ 255 ∷ 255 ∷ 0 ∷ 0 ∷ 0 ∷ 0 ∷ 1 ∷ 0 ∷ 0 ∷ 0 ∷ []
-
--- a state packet for stream 1 with one SACK block, from 1 to below 2
-abbrev sack : Bytes
-sack =
-    255 ∷ 1 ∷ 4 ∷ 0 ∷ 1 ∷ 0 ∷ 0 ∷ 0 ∷ 255 ∷ 255 ∷ 255 ∷ 255 ∷ 0 ∷ 0 ∷ 0 ∷ 0 ∷ 0 ∷ 0 ∷ 0 ∷ 0
-    ∷ 1 ∷ 0 ∷ 0 ∷ 0 ∷ 2 ∷ 0 ∷ 0 ∷ 0 ∷ 0 ∷ []
+abbrev countOf : Line → ℕ
+countOf l = l .count
 
 -- the lengths of the stored packets 0, 1 and 2, 0 where there is none
 abbrev storedLength : End → ℕ → ℕ
@@ -80,6 +92,9 @@ numbersOf e =
     ∷ e .totals .inflightBytes
     ∷ []
 
+abbrev acksOf : End → List ℕ
+acksOf e = e .sender .remoteAcked ∷ e .sender .largestAck ∷ []
+
 -- how often packet 0 was transmitted
 abbrev transmitsOf : End → ℕ
 transmitsOf e = on (get (e .sender .outgoing) 0) 0 (λ p. p .marks .transmits)
@@ -104,10 +119,10 @@ pub record Examples : Type 0 where
   -- the receiver's state packet, once it is driven and taken
   pub acknowledged :
       linesOf (deliverCall datagram 5 ∷ driveCall 5 ∷ takeCall 14_000 ∷ []) (fresh 2 1 10 0)
-      ≡ line Ready 0 [] ∷ line Ready 0 [] ∷ line Ready 20 ack ∷ []
+      ≡ line Ready 0 [] ∷ line Ready 0 [] ∷ line Ready 20 (ackOf 1) ∷ []
   -- the ack comes back after 400 ms: one sample of 400 ms, so rto = 400 + 4 × 200 ms; the window has grown once
   pub settled-once :
-      numbersOf (after (writeCall aaa ∷ driveCall 0 ∷ takeCall 14_000 ∷ deliverCall ack 400_000_000 ∷ driveCall 400_000_000 ∷ []) (fresh 1 2 10 0))
+      numbersOf (after (writeCall aaa ∷ driveCall 0 ∷ takeCall 14_000 ∷ deliverCall (ackOf 1) 400_000_000 ∷ driveCall 400_000_000 ∷ []) (fresh 1 2 10 0))
       ≡ 1 ∷ 0 ∷ 4_200 ∷ 400_000_000 ∷ 1_200_000_000 ∷ 1_600_000_000 ∷ 1 ∷ 3 ∷ 1 ∷ 0 ∷ 0 ∷ 0 ∷ []
   -- the packet is due at 1,000 ms and goes again, so its ack gives no sample; the window was halved to 1,400 and has grown once
   pub resent-no-sample :
@@ -118,7 +133,7 @@ pub record Examples : Type 0 where
       ∷ takeCall 14_000
       ∷ driveCall 1_000_000_000
       ∷ takeCall 14_000
-      ∷ deliverCall ack 1_400_000_000
+      ∷ deliverCall (ackOf 1) 1_400_000_000
       ∷ driveCall 1_400_000_000
       ∷ [])
       (fresh 1 2 10 0))
@@ -140,12 +155,12 @@ pub record Examples : Type 0 where
   pub front-first :
       linesOf (deliverCall (dataOf 0 bcd) 5 ∷ readCall 2 ∷ readCall 2 ∷ []) (fresh 2 1 10 0)
       ≡ line Ready 0 [] ∷ line Waiting 2 (66 ∷ 67 ∷ []) ∷ line Ready 1 (68 ∷ []) ∷ []
-  -- an ack that was delivered moves remote acked at the next drive, not before
+  -- an ack that was delivered is the largest ack, and moves remote acked at the next drive, not before
   pub settled-by-drive :
-      (after (taken (deliverCall ack 5 ∷ [])) (fresh 1 2 10 0)) .sender .remoteAcked
-      ∷ (after (taken (deliverCall ack 5 ∷ driveCall 5 ∷ [])) (fresh 1 2 10 0)) .sender .remoteAcked
+      acksOf (after (taken (deliverCall (ackOf 1) 5 ∷ [])) (fresh 1 2 10 0))
+      ∷ acksOf (after (taken (deliverCall (ackOf 1) 5 ∷ driveCall 5 ∷ [])) (fresh 1 2 10 0))
       ∷ []
-      ≡ 0 ∷ 1 ∷ []
+      ≡ (0 ∷ 1 ∷ []) ∷ (1 ∷ 0 ∷ []) ∷ []
   -- "ack moves past all held in order": DATA 1 alone leaves a gap, which DATA 0 closes
   pub gap-closed :
       (after (deliverCall (dataOf 1 aaa) 5 ∷ []) (fresh 2 1 10 0)) .receiver .ack
@@ -160,18 +175,99 @@ pub record Examples : Type 0 where
   pub old-not-held :
       linesOf (deliverCall (dataOf 0 aaa) 5 ∷ deliverCall (dataOf 0 bcd) 5 ∷ readCall 8 ∷ []) (fresh 2 1 10 0)
       ≡ line Ready 0 [] ∷ line Ready 0 [] ∷ line Ready 3 aaa ∷ []
-  -- "received counts every delivery and every DATA payload, repeats too"
+  -- "received counts every delivery and every DATA payload, repeats too"; each was answered with a state packet
   pub repeats-counted :
-      (let t = (after (deliverCall (dataOf 0 aaa) 5 ∷ deliverCall (dataOf 0 bcd) 5 ∷ []) (fresh 2 1 10 0)) .totals in t .rxPackets ∷ t .rxBytes ∷ [])
-      ≡ 2 ∷ 6 ∷ []
+      (let t = (after (deliverCall (dataOf 0 aaa) 5 ∷ deliverCall (dataOf 0 bcd) 5 ∷ []) (fresh 2 1 10 0)) .totals in
+      t .rxPackets ∷ t .rxBytes ∷ t .txPackets ∷ t .txBytes ∷ [])
+      ≡ 2 ∷ 6 ∷ 2 ∷ 0 ∷ []
   -- "end excluded": of three packets the block takes number 1
   pub block-ends :
       storedLengths (after (writeCall aaa ∷ writeCall aaa ∷ writeCall aaa ∷ deliverCall sack 5 ∷ []) (fresh 1 2 10 0)) ≡ 23 ∷ 0 ∷ 23 ∷ []
   -- "An entry whose packet has left the store counts but writes nothing": the ack came before the packet was taken
   pub settled-entry :
-      linesOf (writeCall aaa ∷ deliverCall ack 5 ∷ driveCall 5 ∷ takeCall 14_000 ∷ takeCall 14_000 ∷ []) (fresh 1 2 10 0)
+      linesOf (writeCall aaa ∷ deliverCall (ackOf 1) 5 ∷ driveCall 5 ∷ takeCall 14_000 ∷ takeCall 14_000 ∷ []) (fresh 1 2 10 0)
       ≡ line Ready 3 [] ∷ line Ready 0 [] ∷ line Ready 0 [] ∷ line Ready 0 [] ∷ line Nothing 0 [] ∷ []
   -- "until inflight + length exceeds the window": halved to 1,400, it lets a packet of 1,400 bytes go again
   pub fills-window :
       (after (writeCall (replicate 1_380 65) ∷ driveCall 0 ∷ takeCall 14_000 ∷ driveCall 1_000_000_000 ∷ []) (fresh 1 2 10 0)) .queue .entries
       ≡ packet 0 1_400 ∷ []
+  -- and at the first that does not fit it stops: a shorter one behind it waits
+  pub flush-stops :
+      (after
+      (writeCall aaa
+      ∷ writeCall (replicate 1_380 65)
+      ∷ writeCall aaa
+      ∷ driveCall 0
+      ∷ takeCall 14_000
+      ∷ takeCall 14_000
+      ∷ takeCall 14_000
+      ∷ driveCall 1_000_000_000
+      ∷ [])
+      (fresh 1 2 10 0)) .queue .entries
+      ≡ packet 0 23 ∷ []
+  -- acks that come in the other order: the larger one is settled, the time sent is the drive's clock and the samples are 400 ms; the window grew
+  -- for each ack past remote acked, and not for the one that came after the drive
+  pub acks-swapped :
+      (let e =
+      after
+      (writeCall aaa
+      ∷ writeCall aaa
+      ∷ driveCall 100_000_000
+      ∷ takeCall 14_000
+      ∷ deliverCall (ackOf 2) 500_000_000
+      ∷ deliverCall (ackOf 1) 500_000_000
+      ∷ driveCall 500_000_000
+      ∷ deliverCall (ackOf 2) 500_000_000
+      ∷ [])
+      (fresh 1 2 10 0) in
+      e .sender .remoteAcked ∷ e .sender .cwnd ∷ e .timing .rtt .srtt .0 ∷ [])
+      ≡ 2 ∷ 5_600 ∷ 400_000_000 ∷ []
+  -- "if deadline is at most now and remote acked differs from seq": a timer is not due where nothing is unacknowledged
+  pub idle-not-due : (after (driveCall 1_000_000_000 ∷ []) (fresh 1 2 10 0)) .sender .cwnd ≡ 2_800
+  -- "at most the ceiling of equal-length entries": of 23, 23, 23 and 21 bytes at ceiling 2
+  pub batches :
+      map countOf
+      (linesOf
+      (writeCall aaa
+      ∷ writeCall aaa
+      ∷ writeCall aaa
+      ∷ writeCall (65 ∷ [])
+      ∷ driveCall 0
+      ∷ takeCall 14_000
+      ∷ takeCall 14_000
+      ∷ takeCall 14_000
+      ∷ takeCall 14_000
+      ∷ [])
+      (fresh 1 2 2 0))
+      ≡ 3 ∷ 3 ∷ 3 ∷ 1 ∷ 0 ∷ 46 ∷ 23 ∷ 21 ∷ 0 ∷ []
+  -- look shows the next datagram while it is left to take
+  pub looks :
+      look (after (writeCall aaa ∷ []) (fresh 1 2 10 0))
+      ∷ look (after (writeCall aaa ∷ driveCall 0 ∷ []) (fresh 1 2 10 0))
+      ∷ look (after (taken []) (fresh 1 2 10 0))
+      ∷ []
+      ≡ [] ∷ datagram ∷ [] ∷ []
+  -- END is answered with END; the delivery's clock counts; "a read with 14 to 16" meets the error
+  pub ended-by-peer :
+      linesOf (deliverCall (endOf 2) 5 ∷ readCall 8 ∷ writeCall aaa ∷ driveCall 4 ∷ driveCall 5 ∷ takeCall 14_000 ∷ []) (fresh 2 1 10 0)
+      ≡ line Ready 0 []
+      ∷ line (Refused refusal.UnexpectedEof) 0 []
+      ∷ line (Refused refusal.UnexpectedEof) 0 []
+      ∷ line (Refused refusal.BadClock) 0 []
+      ∷ line Ready 0 []
+      ∷ line Ready 20 (endOf 1)
+      ∷ []
+  -- a close, up to done and past it
+  pub closed-to-done :
+      linesOf (closeCall ∷ writeCall aaa ∷ driveCall 0 ∷ takeCall 14_000 ∷ driveCall 0 ∷ driveCall 0 ∷ []) (fresh 1 2 10 0)
+      ≡ line Ready 0 []
+      ∷ line (Refused refusal.ConnectionReset) 0 []
+      ∷ line Ready 0 []
+      ∷ line Ready 20 (endOf 2)
+      ∷ line Done 0 []
+      ∷ line (Refused refusal.AfterDone) 0 []
+      ∷ []
+  -- "END closes both sides", a close the local one
+  pub sides-closed :
+      (after (deliverCall (endOf 2) 5 ∷ []) (fresh 2 1 10 0)) .ending .state ∷ (after (closeCall ∷ []) (fresh 1 2 10 0)) .ending .state ∷ []
+      ≡ bothClosed ∷ localClosed ∷ []
