@@ -2,9 +2,9 @@
 -- It says more than 01's rules, which a read and a take alone would not keep: a read could break "read cursor ≤ ack" if number ack
 -- were held, and a take could break "transmits are at most 7". So besides the rules: number ack is not held; a packet's transmits
 -- and its queue entries together are at most 7, and at most 6 while it waits; with nothing left to take, a queued packet is queued
--- once, was never transmitted and does not wait. The other calls keep the rules with these facts or without them, by the same
--- steps: `more` says whether they are there. Without them the invariant is the rules, for stores of 32 slots (`rules-kept`,
--- `kept-rules`). Assumes nothing.
+-- once, was never transmitted and does not wait; and, for the words of the records, seq and the queued numbers fit 32 bits. Calls
+-- other than a read and a take keep the rules with these facts or without them, by the same steps: `more` says whether they are
+-- there. Without them the invariant is the rules, for stores of 32 slots (`rules-kept`, `kept-rules`). Assumes nothing.
 use Prim.Native.Nat.{ℕ, suc, _+_, _^_, _≤_, _<_}
 use native.Mathlib.Decide.{ℕ-discrete}
 use native.Mathlib.Omega.{arith}
@@ -23,7 +23,7 @@ use Rattle.model.specs.RulesKept.{Every, EntryKept, RestKept, ToTakeKept, Keeps
 use Rattle.model.proofs.Lists.{All}
 use Rattle.model.proofs.SlotSums.{SlotsOk}
 use Rattle.model_rules.proofs.Ranges.{InWindow, InSegments}
-use Rattle.model.proofs.RulesKept.{rules-say, rules-said}
+use Rattle.model.proofs.RulesKept.{rules-say, rules-said, distinct-few}
 
 -- how often a number stands in the queue
 abbrev pub count : ℕ → List Entry → ℕ
@@ -81,6 +81,11 @@ pub record Numbers (seq remoteAcked largestAck : ℕ) : Type 0 where
   pub seq-near : seq ≤ remoteAcked + ceiling
   pub largest-seq : largestAck ≤ seq
 
+-- seq and the queued numbers fit 32 bits: a write sends only while seq is below 4,294,967,295, and only what was sent is queued
+pub record NumbersFit (seq : ℕ) (queued : List ℕ) : Type 0 where
+  pub seq-fits : seq ≤ 4_294_967_295
+  pub below : All (λ n. n < seq) queued
+
 -- inflight and the two inflight totals count what is stored
 pub record Sums (i k b : ℕ) (outgoing : Slots Packet) : Type 0 where
   pub inflight : i ≡ sum inflightOf outgoing
@@ -100,6 +105,9 @@ StoredIn e = StoredFacts (e .sender .remoteAcked) (e .sender .seq) (e .clocks .l
 
 abbrev pub RestIn : Bool → End → Type 0
 RestIn more e = AtRest more (e .sender .remoteAcked) (e .sender .seq) (e .sender .outgoing) (e .queue .entries)
+
+abbrev pub FitIn : End → Type 0
+FitIn e = NumbersFit (e .sender .seq) (numbers (e .queue .entries))
 
 -- the receiver: its rules; and number ack is not held, since ack has moved past all held in order
 abbrev pub ReceiverFacts : Bool → Receiver → Type 0
@@ -125,6 +133,7 @@ FactsWith more e =
       ranges : InRanges (e .timing .rtt) (e .sender .cwnd) (e .clocks .drive) (e .clocks .last);
       segments : InSegments (e .ids .segments);
       entries : All (EntryKept (e .sender .outgoing)) (e .queue .entries);
+      fits : more ≡ true → FitIn e;
     }
 
 -- nothing is left to take, or the whole queue
@@ -143,13 +152,20 @@ Invariant e = InvariantWith true e
 
 -- the rules follow
 
-pub all-every : {A : Type 0} {P Q : A → Type 0} (f : (x : A) → P x → Q x) (xs : List A) → All P xs → Every Q xs
+all-every : {A : Type 0} {P Q : A → Type 0} (f : (x : A) → P x → Q x) (xs : List A) → All P xs → Every Q xs
 all-every f [] a = tt
 all-every f (x ∷ xs) a = (f x (a .0), all-every f xs (a .1))
 
 every-all : {A : Type 0} (P : A → Type 0) (xs : List A) → Every P xs → All P xs
 every-all P [] a = tt
 every-all P (x ∷ xs) a = (a .0, every-all P xs (a .1))
+
+-- at rest at most 32 packets are queued
+pub rest-few : {more : Bool} (e : End) → FactsWith more e → RestIn more e → length (numbers (e .queue .entries)) ≤ ceiling
+rest-few e g r =
+    let near = g .numbers .seq-near in
+    distinct-few (e .sender .remoteAcked) ceiling (numbers (e .queue .entries)) (r .once)
+    (all-every (λ n k. let (a, b) = k in (a, omega arith)) (numbers (e .queue .entries)) (r .known))
 
 pub kept-rules : {more : Bool} (e : End) → InvariantWith more e → rules e ≡ true
 kept-rules {more} e g =
@@ -228,6 +244,7 @@ rules-kept e out in-slots h =
                 };
             segments = record { least = k .segments-least; most = k .segments-most };
             entries = every-all (EntryKept (e .sender .outgoing)) (e .queue .entries) (k .entries);
+            fits = λ z. absurd (true≢false (sym z));
           };
       left = go (ℕ-discrete (e .queue .left) 0);
     }

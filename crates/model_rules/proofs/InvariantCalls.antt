@@ -54,6 +54,7 @@ fresh-invariant local remote segments clock least most y =
                 };
             segments = record { least = least; most = most };
             entries = tt;
+            fits = λ y. record { seq-fits = zero-le; below = tt };
           };
       left = atRest refl (record { once = refl; known = tt; states = zero-le; queued = λ y i x z. absurd (no-some (getD-none Packet i) z) });
     }

@@ -26,8 +26,7 @@ use Rattle.model.specs.Answers.{Answer, answered}
 use Rattle.model.proofs.Lists.{by-test}
 use Rattle.model.proofs.SlotSums.{SlotsOk, slots-look, slots-again}
 use Rattle.model_rules.proofs.Ranges.{halved-range}
-use Rattle.model_rules.proofs.Invariant.{QueuedOnce, FactsWith, atRest, InvariantWith, all-every}
-use Rattle.model.proofs.RulesKept.{distinct-few}
+use Rattle.model_rules.proofs.Invariant.{QueuedOnce, FactsWith, atRest, InvariantWith, rest-few}
 use Rattle.model.proofs.Gate.{by-gate, clear, clock-fits}
 use Rattle.model_rules.proofs.InvariantSteps.{states-append, numbers-append, facts-clocks, facts-window, facts-timing}
 use Rattle.model_rules.proofs.InvariantMarks.{facts-lost, facts-flushed, slots-stay, facts-acked, by-ack, removed, facts-settled}
@@ -225,17 +224,13 @@ pub driving-start : {more : Bool} (clock : ℕ) (e : End) → InvariantWith more
 unfolding driveRefusal
 driving-start clock e g z =
     let r = resting-of e g (clear (driveTests clock e) z 3) in
-    let (y, l) = clock-fits clock e (clear (driveTests clock e) z 1) in
-    let f = facts-clocks e (record { last = clock; drive = clock }) l (le-refl _) y (r .facts) in
-    let v = f .numbers .seq-near in (
+    let (y, l) = clock-fits clock e (clear (driveTests clock e) z 1) in (
       y,
       record {
-        facts = f;
+        facts = facts-clocks e (record { last = clock; drive = clock }) l (le-refl _) y (r .facts);
         queued = λ w i x z. (let (a, b) = r .rest .queued w i x z in (a, λ l. b));
         states = r .rest .states;
-        packets =
-            distinct-few (e .sender .remoteAcked) 32 (numbers (e .queue .entries)) (r .rest .once)
-            (all-every (λ n k. let (a, b) = k in (a, omega arith)) (numbers (e .queue .entries)) (r .rest .known));
+        packets = rest-few e (r .facts) (r .rest);
       },
     )
 

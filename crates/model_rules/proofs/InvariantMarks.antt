@@ -15,7 +15,7 @@ use Rattle.rtt.specs.Estimate.{sampled, InRange}
 use Rattle.model.specs.Lists.{on}
 use Rattle.model.specs.Slots.{Slots, ceiling, get, insert, remove}
 use Rattle.model.specs.Stream.{Marks, Packet, Entry, state, packet, Queue, Timing, End, withSender, withQueue}
-use Rattle.model.specs.Rules.{sum, inflightOf, oneOf, payloadOf}
+use Rattle.model.specs.Rules.{sum, inflightOf, oneOf, payloadOf, numbers}
 use Rattle.model.specs.RulesKept.{EntryKept}
 use Rattle.model.specs.Sending.{pushed}
 use Rattle.model.specs.Receiving.{left, measured, countAcked, handleRemoteAck, ackNumber}
@@ -24,8 +24,8 @@ use Rattle.model.proofs.Lists.{All, all-append, all-map, by-test}
 use Rattle.model.proofs.Slots.{some-inj, insert-length, remove-length, insert-same, insert-cases, remove-cases}
 use Rattle.model.proofs.SlotSums.{SlotsOk, slots-look, slots-map, slots-insert, slots-again, slots-remove, sum-again, sum-wipe}
 use Rattle.rtt.proofs.Range.{sampled-range}
-use Rattle.model_rules.proofs.Invariant.{count, Spare, QueuedOnce, StoredIn, RestIn, FactsWith, Facts}
-use Rattle.model_rules.proofs.InvariantSteps.{count-append, fewer, count-other, count-self, spare-fewer}
+use Rattle.model_rules.proofs.Invariant.{count, Spare, QueuedOnce, NumbersFit, StoredIn, RestIn, FactsWith, Facts}
+use Rattle.model_rules.proofs.InvariantSteps.{count-append, fewer, count-other, count-self, numbers-append, spare-fewer}
 
 -- a stored packet's marks change, and inflight with them; the queue may change
 
@@ -56,8 +56,9 @@ module _ {more : Bool} (e : End) (g : FactsWith more e) (n : ℕ) (f : Marks →
       → (more ≡ true → Spare (q .entries) n (marked f p))
       → ((t : ℕ) → f (p .marks) .sent ≡ some t → t ≤ e .clocks .last)
       → All (EntryKept (insert (e .sender .outgoing) n (marked f p))) (q .entries)
+      → (more ≡ true → NumbersFit (e .sender .seq) (numbers (q .entries)))
       → FactsWith more (withQueue q (withSender (remarked n inflight f p (e .sender)) e))
-  facts-marked inflight q i others transmits spare sent entries =
+  facts-marked inflight q i others transmits spare sent entries fits =
       let r = stored-at in
       record {
         numbers = g .numbers;
@@ -78,6 +79,7 @@ module _ {more : Bool} (e : End) (g : FactsWith more e) (n : ℕ) (f : Marks →
         ranges = g .ranges;
         segments = g .segments;
         entries = entries;
+        fits = fits;
       }
 
 -- a packet is lost
@@ -92,6 +94,7 @@ facts-lost e n p z w t o g =
     facts-marked e g n lostMarks p z (e .sender .inflight - length (p .bytes)) (e .queue) (omega arith) (λ m ne. le-refl _) (omega arith)
     (λ y. let six = at (count n (e .queue .entries)) (o y .once) in record { entries = omega arith; waits = λ q. six })
     (stored-at e g n lostMarks p z .sent) (all-map (entry-marked e g n lostMarks p z) (e .queue .entries) (g .entries))
+    (g .fits)
   where
     at : (c : ℕ) → (0 < c → (c ≤ 1) × (p .marks .transmits ≡ 0) × (p .marks .waiting ≡ false)) → suc (p .marks .transmits) + c ≤ 6
     at zero h = omega arith
@@ -114,6 +117,17 @@ facts-flushed e n p z w g =
     (all-append (EntryKept (insert (e .sender .outgoing) n (marked flushedMarks p))) (e .queue .entries) (entry ∷ [])
     (all-map (entry-marked e g n flushedMarks p z) (e .queue .entries) (g .entries))
     ((r .least, r .most, λ q y. ap (λ (x : Packet). length (x .bytes)) (some-inj (insert-same (e .sender .outgoing) n (marked flushedMarks p) (g .slots)) y)), tt))
+    (λ y.
+    let f = g .fits y in
+    record {
+      seq-fits = f .seq-fits;
+      below = rw numbers-append (all-append (λ m. m < e .sender .seq) (numbers (e .queue .entries)) (n ∷ []) (f .below) (r .below, tt));
+    })
+
+-- what is left when an entry is taken still fits
+fits-rest : (seq : ℕ) (x : Entry) (q : List Entry) → NumbersFit seq (numbers (x ∷ q)) → NumbersFit seq (numbers q)
+fits-rest seq (state b) q f = f
+fits-rest seq (packet n l) q f = record { seq-fits = f .seq-fits; below = f .below .1 }
 
 -- an entry is taken whose packet is there
 pub facts-taken : (e : End) (n l : ℕ) (q : List Entry) (p : Packet)
@@ -129,7 +143,7 @@ facts-taken e n l q p z g =
     facts-marked x g n f p z (e .sender .inflight) (record { entries = q; left = e .queue .left }) refl
     (λ m ne. fewer (packet n l) q m) (omega arith) (λ y. record { entries = omega arith; waits = λ w. (let v = r .waits w in omega arith) })
     (λ t y. let d = g .ranges .drive-last in let s : e .clocks .drive ≡ t = some-inj refl y in omega arith)
-    (all-map (entry-marked x g n f p z) q (g .entries .1))
+    (all-map (entry-marked x g n f p z) q (g .entries .1)) (λ y. fits-rest (e .sender .seq) (packet n l) q (g .fits y))
 
 -- an entry is taken whose packet has left, or a state packet
 pub facts-popped : (e : End) (x : Entry) (q : List Entry) → Facts (withEntries (x ∷ q) e) → Facts (withEntries q e)
@@ -144,6 +158,7 @@ facts-popped e x q g =
       ranges = g .ranges;
       segments = g .segments;
       entries = g .entries .1;
+      fits = λ y. fits-rest (e .sender .seq) x q (g .fits y);
     }
 
 -- an acknowledged packet leaves
@@ -201,6 +216,7 @@ module _ {more : Bool} (clock n : ℕ) (e : End) (g : FactsWith more e) (p : Pac
             };
         segments = g .segments;
         entries = all-map entry-left (e .queue .entries) (g .entries);
+        fits = g .fits;
       }
 
   pub rest-acked : RestIn more e → RestIn more (handleRemoteAck clock n p e)
@@ -256,4 +272,5 @@ facts-settled e z l g =
       ranges = g .ranges;
       segments = g .segments;
       entries = g .entries;
+      fits = g .fits;
     }

@@ -33,6 +33,7 @@ facts-receiver e r x g =
       ranges = g .ranges;
       segments = g .segments;
       entries = g .entries;
+      fits = g .fits;
     }
 
 left-receiver : (e : End) (r : Receiver) → Left true e → Left true (withReceiver r e)

@@ -47,10 +47,11 @@ some-length : (bytes : Bytes) → isEmpty bytes ≡ false → 1 ≤ length (piec
 some-length [] e = absurd (true≢false e)
 some-length (b ∷ bytes) e = omega arith
 
-pub goes-room : (p : Bytes) (s : Sender) → goes p s ≡ true → s .seq - s .remoteAcked < ceiling
+pub goes-room : (p : Bytes) (s : Sender) → goes p s ≡ true → (s .seq < 4_294_967_295) × (s .seq - s .remoteAcked < ceiling)
 unfolding goes
 goes-room p s q =
-    ltb-true (s .seq - s .remoteAcked) ceiling (and-left near fits (and-right (leb (s .inflight + length p) (s .cwnd)) (near && fits) q))
+    let both = and-right (leb (s .inflight + length p) (s .cwnd)) (near && fits) q in
+    (ltb-true (s .seq) 4_294_967_295 (and-right near fits both), ltb-true (s .seq - s .remoteAcked) ceiling (and-left near fits both))
   where
     near : Bool
     near = ltb (s .seq - s .remoteAcked) ceiling
@@ -72,11 +73,11 @@ resting-write {more} (suc k) bytes e r =
     sent q =
         let l1 = some-length bytes (not-true (isEmpty bytes) (and-left (not (isEmpty bytes)) (goes (piece bytes) (e .sender)) q)) in
         let l2 : length (piece bytes) ≤ 1_380 = rw length-take (omega arith) in
-        let w = goes-room (piece bytes) (e .sender) (and-right (not (isEmpty bytes)) (goes (piece bytes) (e .sender)) q) in
+        let (low, w) = goes-room (piece bytes) (e .sender) (and-right (not (isEmpty bytes)) (goes (piece bytes) (e .sender)) q) in
         record {
-          facts = facts-sent e (piece bytes) (r .facts) (r .rest) l1 l2 w;
+          facts = facts-sent e (piece bytes) (r .facts) (r .rest) l1 l2 low w;
           none-left = r .none-left;
-          rest = rest-sent e (piece bytes) (r .facts) (r .rest) l1 l2 w;
+          rest = rest-sent e (piece bytes) (r .facts) (r .rest) l1 l2 low w;
         }
 
 pub write-keeps : {more : Bool} (bytes : Bytes) (e : End) → InvariantWith more e → InvariantWith more ((write bytes e) .end)

@@ -111,6 +111,7 @@ module _ {more : Bool} (e : End) (g : FactsWith more e) where
         entries =
             all-append (EntryKept (e .sender .outgoing)) (e .queue .entries) (state stateBytes ∷ []) (g .entries)
             (packet-length (createHeader (stateType (isSet (e .ending .error))) e) [], tt);
+        fits = λ y. rw numbers-append (rw (append-nil (numbers (e .queue .entries))) (g .fits y));
       }
 
   pub rest-state : states (e .queue .entries) ≤ 62 → RestIn more e → RestIn more (sendStatePacket e)
@@ -128,7 +129,7 @@ module _ {more : Bool} (e : End) (g : FactsWith more e) where
 -- a data packet is sent
 
 module _ {more : Bool} (e : End) (p : Bytes) (g : FactsWith more e) (r : RestIn more e) (l1 : 1 ≤ length p) (l2 : length p ≤ 1_380)
-    (w : e .sender .seq - e .sender .remoteAcked < ceiling) where
+    (low : e .sender .seq < 4_294_967_295) (w : e .sender .seq - e .sender .remoteAcked < ceiling) where
   new : Packet
   new = record { bytes = createPacket 1 p e; marks = newMarks }
 
@@ -231,6 +232,14 @@ module _ {more : Bool} (e : End) (p : Bytes) (g : FactsWith more e) (r : RestIn 
             all-append (EntryKept (sendDataPacket p e .sender .outgoing)) (e .queue .entries)
             (packet (e .sender .seq) (20 + length p) ∷ []) (older (e .queue .entries) (r .known) (g .entries))
             ((omega arith, omega arith, λ q z. sym nl ∙ ap (λ (x : Packet). length (x .bytes)) (some-inj (insert-same (e .sender .outgoing) (e .sender .seq) new (g .slots)) z)), tt);
+        fits = λ y.
+            record {
+              seq-fits = low;
+              below =
+                  rw numbers-append
+                  (all-append (λ m. m < suc (e .sender .seq)) (numbers (e .queue .entries)) (e .sender .seq ∷ [])
+                  (all-map (λ m k. omega arith) (numbers (e .queue .entries)) (g .fits y .below)) (le-refl _, tt));
+            };
       }
 
   pub rest-sent : RestIn more (sendDataPacket p e)
@@ -275,6 +284,7 @@ facts-clocks e c l d y g =
       ranges = record { estimate = g .ranges .estimate; window = g .ranges .window; drive-last = d; last-fits = y };
       segments = g .segments;
       entries = g .entries;
+      fits = g .fits;
     }
 
 -- another largest ack and window
@@ -295,6 +305,7 @@ facts-window e largestAck cwnd l w g =
       ranges = record { estimate = g .ranges .estimate; window = w; drive-last = g .ranges .drive-last; last-fits = g .ranges .last-fits };
       segments = g .segments;
       entries = g .entries;
+      fits = g .fits;
     }
 
 pub facts-timing : {more : Bool} (e : End) (t : Timing) → InRange (t .rtt) → FactsWith more e → FactsWith more (withTiming t e)
@@ -309,4 +320,5 @@ facts-timing e t k g =
       ranges = record { estimate = k; window = g .ranges .window; drive-last = g .ranges .drive-last; last-fits = g .ranges .last-fits };
       segments = g .segments;
       entries = g .entries;
+      fits = g .fits;
     }

@@ -15,6 +15,8 @@ use Rattle.error.specs.declared.Refusal.{Refusal}
 use Rattle.error.specs.declared.Outcome.{Outcome}
 use Rattle.error.specs.declared.Outcome.the-variants.{Ready, Waiting, Done, Nothing, Refused}
 use Rattle.model.specs.Lists.{Bytes, isEmpty}
+use Rattle.model.specs.Slots.{Slots}
+use Rattle.model.specs.RulesKept.{EntryKept}
 use Rattle.model.specs.Stream as stream
 use Rattle.model.specs.Stream.{End}
 use Rattle.model.specs.Answers.{Answer, refused, answered}
@@ -25,7 +27,7 @@ use Rattle.model.specs.Driving as model-out
 use Rattle.model.specs.Calls.{writeCall, deliverCall, driveCall, takeCall, closeCall}
 use Rattle.model.proofs.Lists.{All, by-test}
 use Rattle.model.proofs.Gate.{by-gate}
-use Rattle.model_rules.proofs.Invariant.{EntryIn, Left, atRest, toTake, Invariant}
+use Rattle.model_rules.proofs.Invariant.{Left, atRest, toTake, Invariant}
 use Rattle.model_rules.proofs.InvariantCalls.{call-keeps}
 use Rattle.records.specs.declared.opening.Opened.{Opened}
 use Rattle.records.specs.Put.{put}
@@ -127,10 +129,10 @@ unfolding model.close
 close-segment e = no-segment (model.close e) (by-gate (λ a. a .segment ≡ none) (model.closeRefusal e) e _ (λ why. refl) (λ z. refl))
 
 -- the first entry has bytes
-head-some : (e : End) (q : List stream.Entry) → All (EntryIn e) q → 0 < length q → 0 < model-out.headLength q
-head-some e [] h l = absurd (omega arith)
-head-some e (stream.state b ∷ q) h l = let z = h .0 in omega arith
-head-some e (stream.packet n m ∷ q) h l = let z = h .0 .1 in omega arith
+head-some : (outgoing : Slots stream.Packet) (q : List stream.Entry) → All (EntryKept outgoing) q → 0 < length q → 0 < model-out.headLength q
+head-some outgoing [] h l = absurd (omega arith)
+head-some outgoing (stream.state b ∷ q) h l = let z = h .0 in omega arith
+head-some outgoing (stream.packet n m ∷ q) h l = let z = h .0 .0 in omega arith
 
 segment-number : (k m : ℕ) → 0 < m → (n : ℕ) × (segmentOf n ≡ model-out.segmentOf k m)
 segment-number k m l = (cond (eqb k 1) 0 m, go (eqb k 1))
@@ -139,7 +141,7 @@ segment-number k m l = (cond (eqb k 1) 0 m, go (eqb k 1))
     go true = refl
     go false = rw (ne-eqb m 0 (λ z. (omega arith))) refl
 
-left-some : (e : End) → Left e → ltb 0 (e .queue .left) ≡ true → 0 < length (e .queue .entries)
+left-some : (e : End) → Left true e → ltb 0 (e .queue .left) ≡ true → 0 < length (e .queue .entries)
 left-some e (atRest z h) t = let l = ltb-true 0 (e .queue .left) t in absurd (omega arith)
 left-some e (toTake p z h) t = omega arith
 
@@ -150,7 +152,7 @@ take-segment room e g =
     by-gate Segment (model-out.takeRefusal room e) e (cond (ltb 0 (e .queue .left)) t (answered Nothing e)) (λ why. (0, refl))
     (λ z.
     by-test Segment (ltb 0 (e .queue .left)) t (answered Nothing e)
-    (λ l. segment-number (model-out.batch e) (model-out.headLength (e .queue .entries)) (head-some e (e .queue .entries) (g .facts .entries) (left-some e (g .left) l)))
+    (λ l. segment-number (model-out.batch e) (model-out.headLength (e .queue .entries)) (head-some (e .sender .outgoing) (e .queue .entries) (g .facts .entries) (left-some e (g .left) l)))
     (λ l. (0, refl)))
 
 -- refused or not

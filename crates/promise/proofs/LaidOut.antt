@@ -1,6 +1,6 @@
 -- Every end of the model that keeps the invariant can be laid out as records: numbers, words and stores that are seen as it, over stores of
 -- 01's lengths, in which the bytes past the packets stay (`laid`). Assumes nothing.
-use Prim.Native.Nat.{ℕ, _+_, _≤_}
+use Prim.Native.Nat.{ℕ, _+_, _≤_, _<_}
 use native.Mathlib.Omega.{arith}
 use mathlib.Core.Path.{_≡_, refl}
 use mathlib.Core.List.{List, [], _∷_}
@@ -12,9 +12,10 @@ use lib.ListN.{length, getD}
 use borrow.Author.Tests.{eqb-true, le-leb}
 use Rattle.model.specs.Slots.{Numbered, ceiling}
 use Rattle.model.specs.Rules.{states, numbers}
+use Rattle.model.specs.RulesKept.{EntryKept}
 use Rattle.model.specs.Stream as model
-use Rattle.model.proofs.Lists.{All, all-map}
-use Rattle.model_rules.proofs.Invariant.{EntryIn, Left, atRest, toTake, Invariant, ascending-length}
+use Rattle.model.proofs.Lists.{All}
+use Rattle.model_rules.proofs.Invariant.{FitIn, Left, atRest, toTake, Invariant, rest-few}
 use Rattle.records.specs.declared.StreamState.{StreamState}
 use Rattle.records.specs.declared.StreamState.the-variants as state
 use Rattle.records.specs.declared.Stream.{Stream}
@@ -134,19 +135,26 @@ module _ (e : model.End) (g : Invariant e) (l : Lent) (stores : storesTest (l .o
       let o = f .offset in
       record { in-slot = a; from = f .from; below = f .below; fits = f .fits; short = f .most; offset = omega arith }
 
+  numbers-fit : FitIn e
+  numbers-fit = g .facts .fits refl
+
   fit : All Fits (e .queue .entries)
-  fit = all-map one (e .queue .entries) (g .facts .entries)
+  fit = go (e .queue .entries) (g .facts .entries) (numbers-fit .below)
     where
-      one : (x : model.Entry) → EntryIn e x → Fits x
-      one (model.state b) h = h
-      one (model.packet n k) h = let s = g .facts .numbers .seq-fits in let a = h .0 in let b = h .2 in (omega arith, omega arith)
+      go : (q : List model.Entry) → All (EntryKept (e .sender .outgoing)) q → All (λ n. n < e .sender .seq) (numbers q) → All Fits q
+      go [] h b = tt
+      go (model.state x ∷ q) h b = (h .0, go q (h .1) b)
+      go (model.packet n k ∷ q) h b =
+          let s = numbers-fit .seq-fits in
+          let low = b .0 in
+          let most = h .0 .1 in
+          ((omega arith, omega arith), go q (h .1) (b .1))
 
   -- at most 32 packets at rest, 64 to take
-  few : Left e → (length (e .queue .entries) ≤ 128) × (states (e .queue .entries) ≤ 64) × ((e .queue .left ≡ 0) ⊎ (e .queue .left ≡ length (e .queue .entries)))
+  few : Left true e → (length (e .queue .entries) ≤ 128) × (states (e .queue .entries) ≤ 64) × ((e .queue .left ≡ 0) ⊎ (e .queue .left ≡ length (e .queue .entries)))
   few (atRest z h) =
       let k = kinds (e .queue .entries) in
-      let n = ascending-length (e .sender .remoteAcked) (e .sender .seq) (numbers (e .queue .entries)) (h .ascending) in
-      let near = g .facts .numbers .seq-near in
+      let n = rest-few e (g .facts) h in
       let s = h .states in
       (omega arith, omega arith, inl z)
   few (toTake p z h) =
@@ -160,7 +168,7 @@ module _ (e : model.End) (g : Invariant e) (l : Lent) (stores : storesTest (l .o
   laid-seen =
       let f = few (g .left) in
       rw (
-        outgoing-seen (e .sender .outgoing) (e .sender .remoteAcked) (e .sender .seq) (g .facts .numbers .seq-fits) stored (l .outgoing) (sizes .0) (g .facts .slots),
+        outgoing-seen (e .sender .outgoing) (e .sender .remoteAcked) (e .sender .seq) (numbers-fit .seq-fits) stored (l .outgoing) (sizes .0) (g .facts .slots),
         incoming-seen (e .receiver .incoming) (e .receiver .readCursor) (e .receiver .readCursor + ceiling) held (l .incoming) (sizes .1) (g .facts .receiver .slots),
         queue-seen (e .queue) fit (f .0) (f .1) (f .2) (l .headers) (sizes .2),
         state-back (e .ending .state),
@@ -172,7 +180,7 @@ module _ (e : model.End) (g : Invariant e) (l : Lent) (stores : storesTest (l .o
       let f = few (g .left) in
       let c = e .receiver .readCursor in
       rw (
-        outgoing-length (e .sender .outgoing) (e .sender .remoteAcked) (e .sender .seq) (g .facts .numbers .seq-fits) stored (l .outgoing) (sizes .0),
+        outgoing-length (e .sender .outgoing) (e .sender .remoteAcked) (e .sender .seq) (numbers-fit .seq-fits) stored (l .outgoing) (sizes .0),
         incoming-length (e .receiver .incoming) c (c + ceiling) held (l .incoming) (sizes .1),
         laid-headers-length (e .queue) fit (f .0) (f .1) (f .2) (l .headers) (sizes .2),
         le-leb c (c + ceiling) (omega arith),
@@ -187,7 +195,7 @@ module _ (e : model.End) (g : Invariant e) (l : Lent) (stores : storesTest (l .o
         out = laid-out;
         beside =
             record {
-              outgoing = outgoing-stays (e .sender .outgoing) (e .sender .remoteAcked) (e .sender .seq) (g .facts .numbers .seq-fits) stored (l .outgoing) (sizes .0);
+              outgoing = outgoing-stays (e .sender .outgoing) (e .sender .remoteAcked) (e .sender .seq) (numbers-fit .seq-fits) stored (l .outgoing) (sizes .0);
               incoming = incoming-stays (e .receiver .incoming) (e .receiver .readCursor) (e .receiver .readCursor + ceiling) held (l .incoming) (sizes .1);
             };
         sized =
