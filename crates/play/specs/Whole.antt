@@ -1,6 +1,6 @@
 -- A whole session: the turns of a script, one after another from two fresh ends, print what the definition says (`session`). What is
--- known of a turn is the contract of `run_one`, and of an end that of `fresh_end`, word for word (proofs/Contracts.antt). The statement is
--- `WholeSession`, at the bottom; the proof is proofs/Whole.antt. Assumes nothing.
+-- known of a turn is the contract of `run_one`, and of the ends that of `open_ends`, word for word (proofs/Contracts.antt). The statement
+-- is `WholeSession`, at the bottom; the proof is proofs/Whole.antt. Assumes nothing.
 use Prim.Native.Nat.{ℕ, _≤_, _<_}
 use mathlib.Core.Path.{_≡_}
 use mathlib.Core.Bool.{false}
@@ -48,17 +48,17 @@ printedBy (t ∷ ts) = take (t .turn .len) (t .text) ++ printedBy ts
 abbrev pub Sized : Stores → Type 0
 Sized b = storesTest (b .outgoing) (b .incoming) (b .headers) ≡ false
 
--- "ends 0 (id 1) and 1 (id 2), opened at clock 0 with ceiling 10"
-pub record OpenedEnds (w : Ends) (d : Lends) : Type 0 where
-  pub zero : Fresh 1 2 (d .zero) (w .zero)
-  pub one : Fresh 2 1 (d .one) (w .one)
-  pub sized-zero : Sized (d .zero)
-  pub sized-one : Sized (d .one)
+-- the contract of `open_ends`, whatever is lent for datagrams to keep: "ends 0 (id 1) and 1 (id 2), opened at clock 0 with ceiling 10"
+pub record OpenedEnds (w : Ends) (b₀ b₁ : Stores) : Type 0 where
+  pub zero : Fresh 1 2 b₀ (w .zero)
+  pub one : Fresh 2 1 b₁ (w .one)
+  pub sized-zero : Sized b₀
+  pub sized-one : Sized b₁
 
 abbrev pub WholeSession : Type 0
 WholeSession =
     (input : Bytes) (w : Ends) (d : Lends)
-    → OpenedEnds w d
+    → OpenedEnds w (d .zero) (d .one)
     → (ts : List Made)
     → RunsFrom (take 65_536 input) 0 w d ts
     → printedBy ts ≡ session input

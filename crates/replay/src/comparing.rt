@@ -183,10 +183,16 @@ pub fn compare(
     spare_headers: &mut [u8; SPARE_HEADERS],
     line: &mut [u8; LINE],
 ) -> Compared {
-    let zero = ends::fresh_end(1, 2, outgoing_0, incoming_0, headers_0);
-    let one = ends::fresh_end(2, 1, outgoing_1, incoming_1, headers_1);
+    let ends = play::open_ends(
+        outgoing_0,
+        incoming_0,
+        headers_0,
+        outgoing_1,
+        incoming_1,
+        headers_1,
+    );
     compare_from(
-        Ends { zero, one },
+        ends,
         kind,
         front(script, n),
         front(answer, m),
