@@ -7,6 +7,7 @@ use mathlib.Core.List.{List, []}
 use lib.Dec.{ltb, leb}
 use lib.ListN.{length, getD, replicate}
 use borrow.Author.Tests.{ltb-true, leb-true}
+use Rattle.rtt.specs.declared.nanos.Nanos.{Nanos}
 use Rattle.model.specs.Lists.{Bytes}
 use Rattle.model.specs.Sending as model
 use Rattle.model.specs.Receiving as model-in
@@ -27,8 +28,8 @@ module _ (k : Command) (s : Side) (theirs : List Bytes) (e : End) (b : Stores) (
   unfolding acted
   as-write number size fill is a = rw is a
 
-  pub as-drive : (number clock : ℕ) → k ≡ command.Drive number clock
-      → Acts (lined name.Drive number (model-out.drive clock (s .end)) (s .kept)) e b kept len text → Acts (acted k s theirs) e b kept len text
+  pub as-drive : (number : ℕ) (clock : Nanos) → k ≡ command.Drive number clock
+      → Acts (lined name.Drive number (model-out.drive (clock .0) (s .end)) (s .kept)) e b kept len text → Acts (acted k s theirs) e b kept len text
   unfolding acted
   as-drive number clock is a = rw is a
 
@@ -38,8 +39,8 @@ module _ (k : Command) (s : Side) (theirs : List Bytes) (e : End) (b : Stores) (
   unfolding acted
   as-take number is a = rw is a
 
-  pub as-hand : (number which clock : ℕ) → k ≡ command.Hand number which clock → hasDatagram k theirs ≡ true
-      → (which < length theirs → Acts (lined name.Hand number (model-in.deliver (getD theirs which []) clock (s .end)) (s .kept)) e b kept len text)
+  pub as-hand : (number which : ℕ) (clock : Nanos) → k ≡ command.Hand number which clock → hasDatagram k theirs ≡ true
+      → (which < length theirs → Acts (lined name.Hand number (model-in.deliver (getD theirs which []) (clock .0) (s .end)) (s .kept)) e b kept len text)
       → Acts (acted k s theirs) e b kept len text
   unfolding acted
   as-hand number which clock is has a =

@@ -43,11 +43,11 @@ keptAfter a kept = lastKept (kept ++ map fitted (model-out.datagramsOf (a .segme
 -- a command on the end that it is for; `theirs` are the datagrams kept of the other end
 unfoldable pub acted : Command → Side → List Bytes → Acted
 acted (command.Write number length fill) s theirs = lined name.Write number (model.write (replicate length fill) (s .end)) (s .kept)
-acted (command.Drive number clock) s theirs = lined name.Drive number (model-out.drive clock (s .end)) (s .kept)
+acted (command.Drive number clock) s theirs = lined name.Drive number (model-out.drive (clock .0) (s .end)) (s .kept)
 acted (command.Take number) s theirs =
     lined name.Take number (model-out.take 14_000 (s .end)) (keptAfter (model-out.take 14_000 (s .end)) (s .kept))
 acted (command.Hand number which clock) s theirs =
-    lined name.Hand number (model-in.deliver (getD theirs which []) clock (s .end)) (s .kept)
+    lined name.Hand number (model-in.deliver (getD theirs which []) (clock .0) (s .end)) (s .kept)
 acted (command.Read number length) s theirs = linedRead number (model-in.read length (s .end)) (s .kept)
 acted (command.Close number) s theirs = lined name.Close number (model.close (s .end)) (s .kept)
 acted command.Bad s theirs = record { side = s; line = [] }

@@ -22,6 +22,7 @@ use ends::End;
 use kept::KEPT_STORE;
 use kept::Kept;
 use records::least;
+use rtt::Nanos;
 use script::Command;
 use text::LINE;
 use text::Name;
@@ -140,13 +141,13 @@ fn hand(
     e: End,
     theirs: Kept,
     number: u16,
-    clock: u64,
+    clock: Nanos,
     outgoing: &[u8],
     incoming: &mut [u8],
     headers: &mut [u8],
     kept: &[u8; KEPT_STORE],
 ) -> Called
-    ensures { λ r. ⌜ (number < length (keptOf theirs (now (kept .entry))) → Calls (receiving.deliver (getD (keptOf theirs (now (kept .entry))) number []) clock) e (stores (now (outgoing .entry)) (now (incoming .entry)) (now (headers .entry))) r (stores (now (outgoing .entry)) (now (incoming .exit)) (now (headers .exit)))) ⌝ }
+    ensures { λ r. ⌜ (number < length (keptOf theirs (now (kept .entry))) → Calls (receiving.deliver (getD (keptOf theirs (now (kept .entry))) number []) (clock .0)) e (stores (now (outgoing .entry)) (now (incoming .entry)) (now (headers .entry))) r (stores (now (outgoing .entry)) (now (incoming .exit)) (now (headers .exit)))) ⌝ }
 {
     let datagram = kept::datagram(theirs, number, kept);
     ends::deliver(e, datagram, clock, outgoing, incoming, headers)

@@ -2,6 +2,7 @@
 ghost use Prim.Native.Nat.{_<_, _≤_};
 ghost use lib.ListN.{length};
 use packet::Header;
+use rtt::Nanos;
 use script::byte_at;
 use script::u16_at;
 use script::u32_at;
@@ -10,7 +11,7 @@ use script::u64_at;
 pub enum Drill {
     Raw {
         end: u8,
-        clock: u64,
+        clock: Nanos,
         length: u16,
     },
     Base {
@@ -24,7 +25,7 @@ pub enum Drill {
         local: u32,
         remote: u32,
         ceiling: u8,
-        clock: u64,
+        clock: Nanos,
     },
     Room {
         end: u8,
@@ -47,7 +48,7 @@ pub enum Drill {
         end: u8,
         which: u8,
         call: u8,
-        clock: u64,
+        clock: Nanos,
     },
     // It ends the run.
     Bad,
@@ -103,7 +104,7 @@ fn open(s: &[u8], end: u8) -> Drill {
         local: u32_at(s, 2),
         remote: u32_at(s, 6),
         ceiling: byte_at(s, 10),
-        clock: u64_at(s, 11),
+        clock: Nanos(u64_at(s, 11)),
     }
 }
 
@@ -121,7 +122,7 @@ fn spoil(s: &[u8], end: u8) -> Drill {
         end,
         which: byte_at(s, 2),
         call: byte_at(s, 3),
-        clock: u64_at(s, 4),
+        clock: Nanos(u64_at(s, 4)),
     }
 }
 
@@ -131,7 +132,7 @@ fn operands(s: &[u8]) -> Drill {
     match byte_at(s, 0) {
         16 => Drill::Raw {
             end,
-            clock: u64_at(s, 2),
+            clock: Nanos(u64_at(s, 2)),
             length: u16_at(s, 10),
         },
         17 => base(s, end),

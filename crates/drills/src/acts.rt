@@ -35,7 +35,7 @@ fn part(s: &[u8], place: u8, n: u16) -> &[u8] {
 fn raw(
     e: End,
     number: u8,
-    clock: u64,
+    clock: Nanos,
     datagram: &[u8],
     outgoing: &[u8],
     incoming: &mut [u8],
@@ -146,7 +146,7 @@ fn open(
     local: u32,
     remote: u32,
     ceiling: u8,
-    clock: u64,
+    clock: Nanos,
     outgoing: &[u8],
     incoming: &[u8],
     headers: &[u8],
@@ -154,15 +154,7 @@ fn open(
 ) -> Acted
     ensures { λ r. ⌜ r .len ≤ 8_400 ⌝ }
 {
-    let o = udx::open(
-        local,
-        remote,
-        ceiling,
-        Nanos(clock),
-        outgoing,
-        incoming,
-        headers,
-    );
+    let o = udx::open(local, remote, ceiling, clock, outgoing, incoming, headers);
     let outcome = o.outcome;
     let len = drill_lines::put_line(line, Name::Open, number, outcome);
     let mut end = e;

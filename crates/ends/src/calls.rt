@@ -65,12 +65,12 @@ pub fn write(e: End, bytes: &[u8], outgoing: &mut [u8], incoming: &[u8], headers
 pub fn deliver(
     e: End,
     datagram: &[u8],
-    clock: u64,
+    clock: Nanos,
     outgoing: &[u8],
     incoming: &mut [u8],
     headers: &mut [u8],
 ) -> Called
-    ensures { λ r. ⌜ Calls (receiving.deliver (now (datagram .entry)) clock) e (stores (now (outgoing .entry)) (now (incoming .entry)) (now (headers .entry))) r (stores (now (outgoing .entry)) (now (incoming .exit)) (now (headers .exit))) ⌝ }
+    ensures { λ r. ⌜ Calls (receiving.deliver (now (datagram .entry)) (clock .0)) e (stores (now (outgoing .entry)) (now (incoming .entry)) (now (headers .entry))) r (stores (now (outgoing .entry)) (now (incoming .exit)) (now (headers .exit))) ⌝ }
 {
     let mut sent = e.sent;
     let mut held = e.held;
@@ -85,13 +85,13 @@ pub fn deliver(
         incoming,
         headers,
         datagram,
-        Nanos(clock),
+        clock,
     );
     stepped(e, step, sent, held, queue)
 }
 
-pub fn drive(e: End, clock: u64, outgoing: &[u8], incoming: &[u8], headers: &mut [u8]) -> Called
-    ensures { λ r. ⌜ Calls (driving.drive clock) e (stores (now (outgoing .entry)) (now (incoming .entry)) (now (headers .entry))) r (stores (now (outgoing .entry)) (now (incoming .entry)) (now (headers .exit))) ⌝ }
+pub fn drive(e: End, clock: Nanos, outgoing: &[u8], incoming: &[u8], headers: &mut [u8]) -> Called
+    ensures { λ r. ⌜ Calls (driving.drive (clock .0)) e (stores (now (outgoing .entry)) (now (incoming .entry)) (now (headers .entry))) r (stores (now (outgoing .entry)) (now (incoming .entry)) (now (headers .exit))) ⌝ }
 {
     let mut sent = e.sent;
     let held = e.held;
@@ -105,7 +105,7 @@ pub fn drive(e: End, clock: u64, outgoing: &[u8], incoming: &[u8], headers: &mut
         outgoing,
         incoming,
         headers,
-        Nanos(clock),
+        clock,
     );
     stepped(e, step, sent, held, queue)
 }

@@ -5,6 +5,7 @@ use mathlib.Core.Bool.{cond}
 use mathlib.Core.List.{List}
 use lib.ListN.{length, getD}
 use lib.Dec.{eqb, leb, ltb}
+use Rattle.rtt.specs.Estimate.{nanos}
 use Rattle.script.specs.declared.Width.{Width}
 use Rattle.script.specs.declared.Width.the-variants.{Known, Unknown}
 use Rattle.script.specs.declared.Command.{Command}
@@ -40,9 +41,9 @@ readOf end n = cond (ltb 4096 n) Bad (Read end n)
 unfoldable pub operandsOf : ℕ → ℕ → List ℕ → Command
 operandsOf c end s =
     cond (eqb c 1) (Write end (u16At s 2) (getD s 4 0))
-    (cond (eqb c 2) (Drive end (u64At s 2))
+    (cond (eqb c 2) (Drive end (nanos (u64At s 2)))
     (cond (eqb c 3) (Take end)
-    (cond (eqb c 4) (Hand end (u16At s 2) (u64At s 4))
+    (cond (eqb c 4) (Hand end (u16At s 2) (nanos (u64At s 4)))
     (cond (eqb c 5) (readOf end (u16At s 2))
     (cond (eqb c 6) (Close end)
     Bad)))))

@@ -4,6 +4,7 @@ ghost use mathlib.Core.Path.{_≡_};
 ghost use Prim.Native.Nat.{_+_, _*_, _≤_};
 ghost use lib.ListN.{getD};
 ghost use Rattle.script.specs.Script.{widthOf, u16At, u32At, u64At, readOf, operandsOf, Parses};
+use rtt::Nanos;
 
 // How many bytes of operands a command byte has.
 pub enum Width {
@@ -14,9 +15,9 @@ pub enum Width {
 // One command, its operands read.
 pub enum Command {
     Write { end: u8, length: u16, fill: u8 },
-    Drive { end: u8, clock: u64 },
+    Drive { end: u8, clock: Nanos },
     Take { end: u8 },
-    Hand { end: u8, number: u16, clock: u64 },
+    Hand { end: u8, number: u16, clock: Nanos },
     Read { end: u8, length: u16 },
     Close { end: u8 },
     // It ends the run.
@@ -140,13 +141,13 @@ fn operands(command: u8, end: u8, s: &[u8]) -> Command
         },
         2 => Command::Drive {
             end,
-            clock: u64_at(s, 2),
+            clock: Nanos(u64_at(s, 2)),
         },
         3 => Command::Take { end },
         4 => Command::Hand {
             end,
             number: u16_at(s, 2),
-            clock: u64_at(s, 4),
+            clock: Nanos(u64_at(s, 4)),
         },
         5 => read_command(end, u16_at(s, 2)),
         6 => Command::Close { end },

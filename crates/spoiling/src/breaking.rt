@@ -21,8 +21,8 @@ fn pick_total(t: bool, a: u64, b: u64) -> u64 {
     if t { a } else { b }
 }
 
-fn pick_nanos(t: bool, a: u64, b: Nanos) -> Nanos {
-    if t { Nanos(a) } else { b }
+fn pick_nanos(t: bool, a: Nanos, b: Nanos) -> Nanos {
+    if t { a } else { b }
 }
 
 fn pick_ceiling(t: bool, a: u8, b: u8) -> u8 {
@@ -69,18 +69,18 @@ fn queue(g: Queue, which: u8) -> Queue {
 }
 
 fn rtt(g: Rtt, which: u8) -> Rtt {
-    let low = pick_nanos(which == 20, 999_999_999, g.rto);
+    let low = pick_nanos(which == 20, Nanos(999_999_999), g.rto);
     Rtt {
-        srtt: pick_nanos(which == 18, 1_152_921_504_606_846_976, g.srtt),
-        rttvar: pick_nanos(which == 19, 1_152_921_504_606_846_976, g.rttvar),
-        rto: pick_nanos(which == 21, 5_764_607_523_034_234_881, low),
+        srtt: pick_nanos(which == 18, Nanos(1_152_921_504_606_846_976), g.srtt),
+        rttvar: pick_nanos(which == 19, Nanos(1_152_921_504_606_846_976), g.rttvar),
+        rto: pick_nanos(which == 21, Nanos(5_764_607_523_034_234_881), low),
     }
 }
 
 fn clocks(g: Clocks, which: u8) -> Clocks {
     Clocks {
-        last: pick_nanos(which == 22, 1_152_921_504_606_846_976, g.last),
-        drive: pick_nanos(which == 23, wrapping_add_u64(g.last.0, 1), g.drive),
+        last: pick_nanos(which == 22, Nanos(1_152_921_504_606_846_976), g.last),
+        drive: pick_nanos(which == 23, Nanos(wrapping_add_u64(g.last.0, 1)), g.drive),
     }
 }
 

@@ -25,8 +25,8 @@ fn outcome_of(c: Called) -> Outcome {
     outcome
 }
 
-fn opened(clock: u64, outgoing: &[u8], incoming: &[u8], headers: &[u8]) -> Outcome {
-    let o = udx::open(1, 2, 10, Nanos(clock), outgoing, incoming, headers);
+fn opened(clock: Nanos, outgoing: &[u8], incoming: &[u8], headers: &[u8]) -> Outcome {
+    let o = udx::open(1, 2, 10, clock, outgoing, incoming, headers);
     let outcome = o.outcome;
     outcome
 }
@@ -39,7 +39,7 @@ fn taken(e: End, outgoing: &[u8], incoming: &[u8], headers: &[u8]) -> Outcome {
 // A datagram that carries nothing: type 0, the end's id, and all else 0.
 fn delivered(
     e: End,
-    clock: u64,
+    clock: Nanos,
     outgoing: &[u8],
     incoming: &mut [u8],
     headers: &mut [u8],
@@ -74,7 +74,7 @@ fn looked<'a>(e: End, outgoing: &'a [u8], incoming: &[u8], headers: &'a [u8]) ->
 fn call(
     e: End,
     which: u8,
-    clock: u64,
+    clock: Nanos,
     outgoing: &mut [u8],
     incoming: &mut [u8],
     headers: &mut [u8],
@@ -111,7 +111,7 @@ fn call_over(
     e: End,
     which: u8,
     number: u8,
-    clock: u64,
+    clock: Nanos,
     outgoing: &mut [u8],
     incoming: &mut [u8],
     headers: &mut [u8],
@@ -142,7 +142,7 @@ pub fn spoil(
     e: End,
     which: u8,
     number: u8,
-    clock: u64,
+    clock: Nanos,
     outgoing: &[u8; OUTGOING_STORE],
     incoming: &[u8; INCOMING_STORE],
     headers: &[u8; HEADER_STORE],
