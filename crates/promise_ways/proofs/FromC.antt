@@ -95,10 +95,10 @@ unfolding flatOpened
 opened-known o = comes-back .known (o .stream)
 
 -- refusal 1 has the number 1, and nothing else has
-one-is : (why : Refusal) → numberOf why ≡ 1 → why ≡ refusal.BrokenRecords
+pub one-is : (why : Refusal) → numberOf why ≡ 1 → why ≡ refusal.BrokenRecords
 one-is why e = sym (refusal-back why) ∙ ap refusalOf e
 
-broken-is : (o : Outcome) → refusalByte o ≡ 1 → o ≡ outcome.Refused refusal.BrokenRecords
+pub broken-is : (o : Outcome) → refusalByte o ≡ 1 → o ≡ outcome.Refused refusal.BrokenRecords
 broken-is outcome.Ready e = absurd (omega arith)
 broken-is outcome.Waiting e = absurd (omega arith)
 broken-is outcome.Done e = absurd (omega arith)

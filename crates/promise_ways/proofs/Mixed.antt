@@ -46,9 +46,9 @@ did : (v : Mixed) (x : Records) → MixedDid x v → Did x (asEvent v)
 did (inRattle v) x d = d
 did (inC p v) x (h, d) = rw (h .records) at (one p (v .request) (v .step) (v .lent) (v .buf) (h .known) d .does)
 
-opened : (local remote segments clock : ℕ) (l : Lent) (o : Opened) → OpenedEither local remote segments clock l o → OpenedBy local remote segments clock l o
-opened local remote segments clock l o (inl h) = h
-opened local remote segments clock l o (inr (f, h, e)) = subst (OpenedBy local remote segments clock l) e (opened-in-c local remote segments clock l f h)
+pub opened-either : (local remote segments clock : ℕ) (l : Lent) (o : Opened) → OpenedEither local remote segments clock l o → OpenedBy local remote segments clock l o
+opened-either local remote segments clock l o (inl h) = h
+opened-either local remote segments clock l o (inr (f, h, e)) = subst (OpenedBy local remote segments clock l) e (opened-in-c local remote segments clock l f h)
 
 -- one end
 
@@ -58,7 +58,7 @@ run (v ∷ vs) x d = (did v x (d .0), run vs (left (asEvent v)) (d .1))
 
 pub same-mixed : SameMixed
 same-mixed local remote segments clock l o h calls d =
-    let same = same-as-model local remote segments clock l o (opened local remote segments clock l o h) (asEvents calls) (run calls _ d) in
+    let same = same-as-model local remote segments clock l o (opened-either local remote segments clock l o h) (asEvents calls) (run calls _ d) in
     record {
       records = same;
       next = λ v e. same .next (asEvent v) (did v _ e);
@@ -83,8 +83,8 @@ pub two-ends-mixed : TwoEndsMixed
 two-ends-mixed i j segmentsA segmentsB clockA clockB idI idJ lentA lentB a b openA openB turns d =
     let w = records.bothOpened a b lentA lentB in
     let (out, back) =
-    two-ends-on-records i j segmentsA segmentsB clockA clockB idI idJ lentA lentB a b (opened i j segmentsA clockA lentA a openA)
-    (opened j i segmentsB clockB lentB b openB)
+    two-ends-on-records i j segmentsA segmentsB clockA clockB idI idJ lentA lentB a b (opened-either i j segmentsA clockA lentA a openA)
+    (opened-either j i segmentsB clockB lentB b openB)
     (asTurns turns)
     (line turns w d) in
     (either-way _ _ out, either-way _ _ back)

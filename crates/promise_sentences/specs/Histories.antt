@@ -1,0 +1,126 @@
+-- What demand 3 is about, in the sentences of 01, 'What the contracts say', 4, and of call 5: which bytes, packets and numbers a history has
+-- after a call (`Counted` on the records and from C, `CountedInModel`), and which lists of calls are over a line (`AnyLine`, `AnyLineFromC`,
+-- `AnyMixedLine`, `AnyLineInModel`): all of those that 01 allows, so that the two-end theorems leave none out. Statements only: the proofs are
+-- proofs/Histories.antt. Assumes nothing.
+use Prim.Native.Nat.{ℕ, suc, _<_}
+use mathlib.Core.Path.{_≡_}
+use mathlib.Core.List.{List, [], _∷_, _++_, List·Memᴰ}
+use mathlib.Core.Option.{none, some}
+use mathlib.Core.Bool.{true, false}
+use lib.ListN.{length, take}
+use Rattle.error.specs.declared.Refusal.{Refusal}
+use Rattle.error.specs.declared.Outcome.{Outcome}
+use Rattle.error.specs.declared.Outcome.the-variants.{Ready, Refused}
+use Rattle.packet.specs.Header.{fields, hasType}
+use Rattle.model.specs.Lists.{Bytes, cut}
+use Rattle.model.specs.Answers.{Answer}
+use Rattle.model.specs.Calls.{Call, writeCall, deliverCall, takeCall, readCall, answer}
+use Rattle.model.specs.TwoEnds as model
+use Rattle.model.specs.TwoEnds.{History}
+use Rattle.answers.specs.declared.step.Step.{Step}
+use Rattle.promise.specs.Runs.{Records, Request, toWrite, toDeliver, toTake, toRead, Event, left, Did}
+use Rattle.promise.specs.TwoEndsOnRecords.{noted, Ends, Turn, onA, onB, turned, OverALine}
+use Rattle.promise_ways.specs.Calls.{Plain, PlainEvent, PlainDid, plainLeft, stepOf, eventOf}
+use Rattle.promise_ways.specs.FromC as c
+use Rattle.promise_ways.specs.FromC.{PlainEnds, PlainTurn, plainTurned, PlainOverALine}
+use Rattle.promise_ways.specs.Mixed as mixed
+use Rattle.promise_ways.specs.Mixed.{Mixed, inC, asEvent, MixedDid, plainOf, MixedTurn, MixedOverALine}
+
+-- what a history counts
+
+-- a call that leaves a step and, of a take and a read, a buffer; from C the step is what the numbers stand for
+pub record Counted : Type 0 where
+  -- "Each write brings its own bytes": those of its count are accepted, and went in pieces of up to 1,380
+  pub write-accepts : (bytes buf : Bytes) (r : Step) (h : History) → noted (toWrite bytes) r buf h .accepted ≡ h .accepted ++ take (r .count) bytes
+  pub write-sends : (bytes buf : Bytes) (r : Step) (h : History) → noted (toWrite bytes) r buf h .pieces ≡ h .pieces ++ cut (length bytes) 1_380 (take (r .count) bytes)
+  -- "Bytes that a refused read put are read."
+  pub read-reads : (buf buf′ : Bytes) (r : Step) (h : History) → noted (toRead buf) r buf′ h .reads ≡ h .reads ++ take (r .count) buf′
+  pub refused-read-reads : (buf buf′ : Bytes) (r : Step) (h : History) (why : Refusal) → r .outcome ≡ Refused why
+      → noted (toRead buf) r buf′ h .reads ≡ h .reads ++ take (r .count) buf′
+  -- a refused delivery counts as nothing; an accepted one "brought as DATA" just its number
+  pub refused-delivery : (datagram : Bytes) (clock : ℕ) (r : Step) (buf : Bytes) (h : History) (why : Refusal) → r .outcome ≡ Refused why
+      → noted (toDeliver datagram clock) r buf h ≡ h
+  pub data-delivery : (datagram : Bytes) (clock : ℕ) (r : Step) (buf : Bytes) (h : History) → r .outcome ≡ Ready → hasType 1 (fields datagram .typ) ≡ true
+      → noted (toDeliver datagram clock) r buf h .brought ≡ h .brought ++ (fields datagram .seq ∷ [])
+  pub other-delivery : (datagram : Bytes) (clock : ℕ) (r : Step) (buf : Bytes) (h : History) → hasType 1 (fields datagram .typ) ≡ false
+      → noted (toDeliver datagram clock) r buf h ≡ h
+  -- "A batch's datagrams are its pieces of segment size, or all of it where it has none; an empty batch has no datagram, and only these
+  -- datagrams count as taken"
+  pub takes-pieces : (buf buf′ : Bytes) (r : Step) (h : History) (size : ℕ) → r .segment ≡ suc size
+      → noted (toTake buf) r buf′ h .taken ≡ h .taken ++ cut (length (take (r .count) buf′)) (suc size) (take (r .count) buf′)
+  pub takes-all : (buf buf′ : Bytes) (r : Step) (h : History) (b : ℕ) (bytes : Bytes) → r .segment ≡ 0 → take (r .count) buf′ ≡ b ∷ bytes
+      → noted (toTake buf) r buf′ h .taken ≡ h .taken ++ ((b ∷ bytes) ∷ [])
+  pub takes-none : (buf buf′ : Bytes) (r : Step) (h : History) → r .count ≡ 0 → noted (toTake buf) r buf′ h .taken ≡ h .taken
+
+-- the same of an answer of the model
+pub record CountedInModel : Type 0 where
+  pub write-accepts : (bytes : Bytes) (a : Answer) (h : History) → model.noted (writeCall bytes) a h .accepted ≡ h .accepted ++ take (a .count) bytes
+  pub write-sends : (bytes : Bytes) (a : Answer) (h : History) → model.noted (writeCall bytes) a h .pieces ≡ h .pieces ++ cut (length bytes) 1_380 (take (a .count) bytes)
+  pub read-reads : (room : ℕ) (a : Answer) (h : History) → model.noted (readCall room) a h .reads ≡ h .reads ++ a .bytes
+  pub refused-delivery : (datagram : Bytes) (clock : ℕ) (a : Answer) (h : History) (why : Refusal) → a .outcome ≡ Refused why
+      → model.noted (deliverCall datagram clock) a h ≡ h
+  pub data-delivery : (datagram : Bytes) (clock : ℕ) (a : Answer) (h : History) → a .outcome ≡ Ready → hasType 1 (fields datagram .typ) ≡ true
+      → model.noted (deliverCall datagram clock) a h .brought ≡ h .brought ++ (fields datagram .seq ∷ [])
+  pub other-delivery : (datagram : Bytes) (clock : ℕ) (a : Answer) (h : History) → hasType 1 (fields datagram .typ) ≡ false
+      → model.noted (deliverCall datagram clock) a h ≡ h
+  pub takes-pieces : (room : ℕ) (a : Answer) (h : History) (size : ℕ) → a .segment ≡ some size
+      → model.noted (takeCall room) a h .taken ≡ h .taken ++ cut (length (a .bytes)) size (a .bytes)
+  pub takes-all : (room : ℕ) (a : Answer) (h : History) (b : ℕ) (bytes : Bytes) → a .segment ≡ none → a .bytes ≡ b ∷ bytes
+      → model.noted (takeCall room) a h .taken ≡ h .taken ++ ((b ∷ bytes) ∷ [])
+
+-- which lists are over a line
+
+-- a call is no delivery
+abbrev pub NoDelivery : Request → Type 0
+NoDelivery q = (datagram : Bytes) (clock : ℕ) → q ≡ toDeliver datagram clock → ⊥
+
+-- "each delivery a copy of such a datagram; only a refused delivery may bring other bytes": `taken` are those of the other end, a refused
+-- delivery may bring any
+pub data Allowed (taken : List Bytes) (o : Outcome) : Request → Type 0 where
+  no-delivery : {q : Request} → NoDelivery q → Allowed taken o q
+  copy : {datagram : Bytes} {clock : ℕ} → List·Memᴰ datagram taken → Allowed taken o (toDeliver datagram clock)
+  refused : {datagram : Bytes} {clock : ℕ} (why : Refusal) → o ≡ Refused why → Allowed taken o (toDeliver datagram clock)
+
+-- any such call at either end makes a longer list over the line
+pub record AnyLine : Type 0 where
+  pub none-yet : (w : Ends) → OverALine [] w
+  pub on-a : (v : Event) (cs : List Turn) (w : Ends) → Did (w .a .records) v → Allowed (w .b .past .taken) (v .step .outcome) (v .request)
+      → OverALine cs (turned (onA v) w) → OverALine (onA v ∷ cs) w
+  pub on-b : (v : Event) (cs : List Turn) (w : Ends) → Did (w .b .records) v → Allowed (w .a .past .taken) (v .step .outcome) (v .request)
+      → OverALine cs (turned (onB v) w) → OverALine (onB v ∷ cs) w
+
+pub record AnyLineFromC : Type 0 where
+  pub none-yet : (w : PlainEnds) → PlainOverALine [] w
+  pub on-a : (v : PlainEvent) (cs : List PlainTurn) (w : PlainEnds) → PlainDid (w .a .plain) v
+      → Allowed (w .b .past .taken) (stepOf (v .step) .outcome) (v .request) → PlainOverALine cs (plainTurned (c.onA v) w) → PlainOverALine (c.onA v ∷ cs) w
+  pub on-b : (v : PlainEvent) (cs : List PlainTurn) (w : PlainEnds) → PlainDid (w .b .plain) v
+      → Allowed (w .a .past .taken) (stepOf (v .step) .outcome) (v .request) → PlainOverALine cs (plainTurned (c.onB v) w) → PlainOverALine (c.onB v ∷ cs) w
+
+-- with the ways mixed: a call from C is handed any numbers that stand for the records, such as those that another one handed back
+pub record AnyMixedLine : Type 0 where
+  pub none-yet : (w : Ends) → MixedOverALine [] w
+  pub on-a : (v : Mixed) (cs : List MixedTurn) (w : Ends) → MixedDid (w .a .records) v → Allowed (w .b .past .taken) (asEvent v .step .outcome) (asEvent v .request)
+      → MixedOverALine cs (turned (onA (asEvent v)) w) → MixedOverALine (mixed.onA v ∷ cs) w
+  pub on-b : (v : Mixed) (cs : List MixedTurn) (w : Ends) → MixedDid (w .b .records) v → Allowed (w .a .past .taken) (asEvent v .step .outcome) (asEvent v .request)
+      → MixedOverALine cs (turned (onB (asEvent v)) w) → MixedOverALine (mixed.onB v ∷ cs) w
+  -- on any records the next call may be one from C
+  pub to-c : (x : Records) (v : PlainEvent) → PlainDid (plainOf x) v → MixedDid x (inC (plainOf x) v)
+  -- and the one after it may be handed what that one handed back
+  pub on-in-c : (p : Plain) (x : Records) (v next : PlainEvent) → MixedDid x (inC p v) → PlainDid (plainLeft v) next
+      → MixedDid (left (eventOf v)) (inC (plainLeft v) next)
+
+-- in the model a call answers by itself
+abbrev pub NoDeliveryCall : Call → Type 0
+NoDeliveryCall q = (datagram : Bytes) (clock : ℕ) → q ≡ deliverCall datagram clock → ⊥
+
+pub data AllowedCall (taken : List Bytes) (o : Outcome) : Call → Type 0 where
+  no-delivery : {q : Call} → NoDeliveryCall q → AllowedCall taken o q
+  copy : {datagram : Bytes} {clock : ℕ} → List·Memᴰ datagram taken → AllowedCall taken o (deliverCall datagram clock)
+  refused : {datagram : Bytes} {clock : ℕ} (why : Refusal) → o ≡ Refused why → AllowedCall taken o (deliverCall datagram clock)
+
+pub record AnyLineInModel : Type 0 where
+  pub none-yet : (w : model.Ends) → model.OverALine [] w
+  pub on-a : (q : Call) (cs : List model.Command) (w : model.Ends) → AllowedCall (w .b .past .taken) ((answer q (w .a .end)) .outcome) q
+      → model.OverALine cs (model.step (model.onA q) w) → model.OverALine (model.onA q ∷ cs) w
+  pub on-b : (q : Call) (cs : List model.Command) (w : model.Ends) → AllowedCall (w .a .past .taken) ((answer q (w .b .end)) .outcome) q
+      → model.OverALine cs (model.step (model.onB q) w) → model.OverALine (model.onB q ∷ cs) w

@@ -1,0 +1,85 @@
+-- 'Seventeen refusals, in checking order', in the sentences of 01: of each call, that the first of its refusals that applies is returned by
+-- its number, and that it returns no other number (`InOrder`); what a read answers by the stream's error, and what header coding refuses.
+-- Each follows from a field of `RefusalsInOrder` (model/specs/Order.antt); that of open on the records is stated here. Statements only: the
+-- proofs are proofs/Refusals.antt. Assumes nothing.
+use Prim.Native.Nat.{ℕ, _<_}
+use mathlib.Core.Path.{_≡_}
+use mathlib.Core.List.{List, [], _∷_, map, List·Memᴰ}
+use mathlib.Core.Logic.{_⊎_, _↔_}
+use mathlib.Core.Option.{Option, none, some}
+use mathlib.Core.Bool.{true, false}
+use lib.ListN.{length, drop, getD}
+use Rattle.error.specs.declared.UdxError.{UdxError}
+use Rattle.error.specs.declared.UdxError.the-variants as error
+use Rattle.error.specs.declared.Refusal.the-variants.{BrokenRecords}
+use Rattle.error.specs.declared.Outcome.{Outcome}
+use Rattle.packet.specs.declared.header.Header.{Header}
+use Rattle.packet.specs.Header.{fields, decoded, Encodes}
+use Rattle.model.specs.Lists.{Bytes}
+use Rattle.model.specs.Stream.{End}
+use Rattle.model.specs.Answers.{Test, first}
+use Rattle.model.specs.Rules.{rules}
+use Rattle.model.specs.Sending.{openTests, writeTests, write, closeTests, close}
+use Rattle.model.specs.Receiving.{deliverTests, deliver, readNext, readTests, read}
+use Rattle.model.specs.Driving as model
+use Rattle.model.specs.Driving.{driveTests, drive, takeTests}
+use Rattle.model.specs.Order.{number, refusedBy, undecodedBy}
+use Rattle.records.specs.declared.opening.Opened.{Opened}
+use Rattle.records.specs.Open.{storesTest, openWhy, Opens}
+
+-- past the end of a list no test holds
+abbrev pub noTest : Test
+noTest = record { holds = false; refusal = BrokenRecords }
+
+-- "in checking order": of these tests the first that holds is answered by its number in 01's list
+abbrev pub FirstAnswers : List Test → List ℕ → Outcome → Type 0
+FirstAnswers tests numbers o =
+    (k : ℕ) → getD tests k noTest .holds ≡ true → ((j : ℕ) → j < k → getD tests j noTest .holds ≡ false) → refusedBy o ≡ some (getD numbers k 0)
+
+-- a call is refused with these numbers only
+abbrev pub NoOther : List ℕ → Outcome → Type 0
+NoOther numbers o = (n : ℕ) → refusedBy o ≡ some n → List·Memᴰ n numbers
+
+abbrev pub InOrder : List Test → List ℕ → Outcome → Type 0
+InOrder tests numbers o = FirstAnswers tests numbers o × NoOther numbers o
+
+-- open on the records: refusal 1 tests "the lengths only", then 3 and 4
+abbrev pub openTestsOn : (segments clock : ℕ) (outgoing incoming headers : Bytes) → List Test
+openTestsOn segments clock outgoing incoming headers =
+    record { holds = storesTest outgoing incoming headers; refusal = BrokenRecords } ∷ openTests segments clock
+
+pub record OpenRefusals : Type 0 where
+  pub numbers : (segments clock : ℕ) (outgoing incoming headers : Bytes) → map number (openTestsOn segments clock outgoing incoming headers) ≡ 1 ∷ 3 ∷ 4 ∷ []
+  pub first-of : (segments clock : ℕ) (outgoing incoming headers : Bytes)
+      → openWhy segments clock outgoing incoming headers ≡ first (openTestsOn segments clock outgoing incoming headers)
+
+-- 14, 15, 16
+abbrev pub errorNumber : UdxError → Option ℕ
+errorNumber error.None = none
+errorNumber error.ConnectionReset = some 14
+errorNumber error.UnexpectedEof = some 15
+errorNumber error.TimedOut = some 16
+
+-- "its first bytes aren't 255, 1"
+abbrev pub OtherBytes : Bytes → Type 0
+OtherBytes bytes = getD bytes 0 0 ≡ 255 → getD bytes 1 0 ≡ 1 → ⊥
+
+pub record RefusalSentences : Type 0 where
+  pub open-in-order : (local remote segments clock : ℕ) (outgoing incoming headers : Bytes) (r : Opened)
+      → Opens local remote segments clock outgoing incoming headers r
+      → InOrder (openTestsOn segments clock outgoing incoming headers) (1 ∷ 3 ∷ 4 ∷ []) (r .outcome)
+  pub write-in-order : (bytes : Bytes) (e : End) → InOrder (writeTests bytes e) (1 ∷ 6 ∷ 14 ∷ 15 ∷ 16 ∷ 17 ∷ []) ((write bytes e) .outcome)
+  pub deliver-in-order : (datagram : Bytes) (clock : ℕ) (e : End)
+      → InOrder (deliverTests clock datagram (fields datagram) (drop 20 datagram) e) (1 ∷ 4 ∷ 5 ∷ 6 ∷ 7 ∷ 8 ∷ 9 ∷ 10 ∷ 11 ∷ 12 ∷ 13 ∷ [])
+      ((deliver datagram clock e) .outcome)
+  pub drive-in-order : (clock : ℕ) (e : End) → InOrder (driveTests clock e) (1 ∷ 4 ∷ 5 ∷ 6 ∷ []) ((drive clock e) .outcome)
+  pub take-in-order : (room : ℕ) (e : End) → InOrder (takeTests room e) (1 ∷ 2 ∷ []) ((model.take room e) .outcome)
+  pub close-in-order : (e : End) → InOrder (closeTests e) (1 ∷ 5 ∷ 6 ∷ 13 ∷ []) ((close e) .outcome)
+  pub read-in-order : (room : ℕ) (e : End) → FirstAnswers (readTests e) (1 ∷ []) ((read room e) .outcome) × NoOther (1 ∷ 14 ∷ 15 ∷ 16 ∷ []) ((read room e) .outcome)
+  -- "Ready only if a packet was finished, else the error, else waiting"; 14 to 16: "Write or read meets" it
+  pub read-meets : (room : ℕ) (e : End) → rules e ≡ true → (readNext room (e .receiver)) .ready ≡ false → (n : ℕ)
+      → errorNumber (e .ending .error) ≡ some n → refusedBy ((read room e) .outcome) ≡ some n
+  -- 2: "Encode has under 20 bytes"
+  pub encode-refused : (h : Header) (before after : Bytes) (r : Outcome) → Encodes h before after r → (refusedBy r ≡ some 2) ↔ (length before < 20)
+  -- 7: "A header is under 20 bytes or its first bytes aren't 255, 1."
+  pub decode-refused : (bytes : Bytes) → (undecodedBy (decoded bytes) ≡ some 7) ↔ ((length bytes < 20) ⊎ OtherBytes bytes)
