@@ -1,34 +1,32 @@
 -- Demand 2 in 01's sentences: each from the field of the promise that renders it. What follows from an answer that is the definition's is
 -- derived once, for every way to make a call. Assumes nothing.
-use Prim.Native.Nat.{ℕ, suc, _+_, _≤_, _<_}
+use Prim.Native.Nat.{ℕ, _<_}
 use native.Mathlib.Omega.{arith}
 use mathlib.Core.Path.{_≡_, refl, sym, ap, _∙_}
 use mathlib.Core.List.{List, [], _∷_}
-use mathlib.Core.Option.{Option, none}
-use mathlib.Core.Bool.{Bool, true, false, cond, _&&_, _||_}
+use mathlib.Core.Option.{none}
+use mathlib.Core.Bool.{Bool, true, cond}
 use lib.Dec.{ltb}
 use lib.ListN.{length}
 use borrow.Author.Tests.{lt-ltb, le-ltb, ltb-false}
-use Rattle.error.specs.declared.Outcome.{Outcome}
 use Rattle.error.specs.declared.Outcome.the-variants.{Ready, Waiting, Done, Nothing, Refused}
 use Rattle.model.specs.Lists.{Bytes, isEmpty}
 use Rattle.model.specs.Slots.{get}
-use Rattle.model.specs.Stream.{Entry, End, fresh}
-use Rattle.model.specs.Answers.{Answer, answered}
+use Rattle.model.specs.Stream.{Entry, End}
+use Rattle.model.specs.Answers.{Answer}
 use Rattle.model.specs.Rules.{rules}
-use Rattle.model.specs.Sending.{isSet, goes, piece, sendDataPacket, writeLoop, writeRefusal, written, write, openRefusal}
-use Rattle.model.specs.Receiving.{handleIncoming, deliverRefusal, deliver}
+use Rattle.model.specs.Sending.{isSet, goes, piece, writeLoop, writeRefusal, written, write}
+use Rattle.model.specs.Receiving.{deliverRefusal, deliver}
 use Rattle.model.specs.Driving as model
-use Rattle.model.specs.Driving.{drained, driveRefusal, firstThere, takeRefusal, look}
-use Rattle.model.specs.Calls.{Call, writeCall, deliverCall, driveCall, takeCall, answer, after}
+use Rattle.model.specs.Driving.{drained, driveRefusal, takeRefusal, look}
+use Rattle.model.specs.Calls.{Call, writeCall, deliverCall, driveCall, takeCall, answer}
 use Rattle.model.proofs.Lists.{by-test}
 use Rattle.model.proofs.Gate.{by-gate, gate-open, and-left, and-right}
 use Rattle.model.proofs.NeverBroken.{never-broken}
 use Rattle.records.specs.Seen.{seenQueue, seen}
-use Rattle.promise.specs.Runs.{Records, seenOf, callOf, callsOf, Event, Did, answerOf, Same}
+use Rattle.promise.specs.Runs.{Records, callOf, callsOf, Event, Did, answerOf, Same}
 use Rattle.promise.proofs.Runs.{open-clear, same-as-model}
 use Rattle.flat.specs.Flat.{streamOf, totalsOf}
-use Rattle.udx_c.specs.Shown.{ShownBy}
 use Rattle.promise_ways.specs.Calls.{Plain, PlainEvent, PlainDid, openedOf, recordsOf, eventOf, eventsOf}
 use Rattle.promise_ways.specs.FromC.{SameInC}
 use Rattle.promise_ways.specs.Mixed.{Mixed, asEvent, asEvents, MixedDid, SameEitherWay}
@@ -149,6 +147,8 @@ after-calls-in-c x e same ok =
       next = answering e PlainEvent (PlainDid x) (λ v. callOf (v .request)) (λ v. answerOf (eventOf v)) (same .next);
       never-one = same .unbroken;
       look = λ p h. shows _ e ok (same .shown p h .bytes);
+      look-length = λ p h. let q = same .shown p h in q .long ∙ ap length (sym (q .bytes));
+      look-flag = λ p h. same .shown p h .flag;
       look-within = λ p h. same .shown p h .within;
     }
 

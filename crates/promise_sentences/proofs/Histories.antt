@@ -3,7 +3,7 @@
 use Prim.Native.Nat.{ℕ, suc}
 use native.Mathlib.Omega.{arith}
 use mathlib.Core.Path.{_≡_, refl, ap}
-use mathlib.Core.List.{List, [], _∷_, _++_, append-nil}
+use mathlib.Core.List.{List, [], _++_, append-nil}
 use mathlib.Core.Logic.{inl, inr}
 use mathlib.Core.Option.{Option, none, some}
 use mathlib.Core.Bool.{Bool, true, false, cond}
@@ -82,25 +82,41 @@ brings toClose o other h = tt
 pub any-line : AnyLine
 any-line =
     record {
+      opened = λ local remote segments clock l o does ready. record { opens = does; ready = ready };
       none-yet = λ w. tt;
       on-a = λ v cs w d h line. ((d, brings (v .request) (v .step .outcome) (w .b) h), line);
       on-b = λ v cs w d h line. ((d, brings (v .request) (v .step .outcome) (w .a) h), line);
+      last-read = λ v buf x q room d none. ((buf, q, room), d, none);
+      one-more-read = λ v vs last buf x q room d rest. ((buf, q, room), d, rest);
+      no-call = λ x. tt;
+      one-more-call = λ v vs x d rest. (d, rest);
     }
 
 pub any-line-from-c : AnyLineFromC
 any-line-from-c =
     record {
+      opened = λ local remote segments clock l o does ready. record { opens = does; ready = ready };
       none-yet = λ w. tt;
       on-a = λ v cs w d h line. ((d, brings (v .request) _ (sideOf (w .b)) h), line);
       on-b = λ v cs w d h line. ((d, brings (v .request) _ (sideOf (w .a)) h), line);
+      last-read = λ v buf x q room d none. ((buf, q, room), d, none);
+      one-more-read = λ v vs last buf x q room d rest. ((buf, q, room), d, rest);
+      no-call = λ x. tt;
+      one-more-call = λ v vs x d rest. (d, rest);
     }
 
 pub any-mixed-line : AnyMixedLine
 any-mixed-line =
     record {
+      opened-in-rattle = λ local remote segments clock l o h. inl h;
+      opened-in-c = λ local remote segments clock l o h. inr (o, h, refl);
       none-yet = λ w. tt;
       on-a = λ v cs w d h line. ((d, brings (asEvent v .request) _ (w .b) h), line);
       on-b = λ v cs w d h line. ((d, brings (asEvent v .request) _ (w .a) h), line);
+      last-read = λ v buf x q room d none. ((buf, q, room), d, none);
+      one-more-read = λ v vs last buf x q room d rest. ((buf, q, room), d, rest);
+      no-call = λ x. tt;
+      one-more-call = λ v vs x d rest. (d, rest);
       to-c = λ x v d. (crossing .there x, d);
       on-in-c = λ p x v next (h, d) e. (crossing .back p x v h d, e);
     }
@@ -118,6 +134,7 @@ brings-call closeCall x other h = tt
 pub any-line-in-model : AnyLineInModel
 any-line-in-model =
     record {
+      any-id = λ i l. omega arith;
       none-yet = λ w. tt;
       on-a = λ q cs w h line. (brings-call q (w .a) (w .b) h, line);
       on-b = λ q cs w h line. (brings-call q (w .b) (w .a) h, line);

@@ -1,6 +1,6 @@
 -- 'Seventeen refusals, in checking order': each sentence from the numbers that `RefusalsInOrder` has for the call. Of a list of tests: the
 -- first that holds is answered, and an answer is one of their numbers. Assumes nothing.
-use Prim.Native.Nat.{ℕ, zero, suc, _≤_, _<_}
+use Prim.Native.Nat.{ℕ, zero, suc, _<_}
 use native.Mathlib.Omega.{arith}
 use mathlib.Core.Path.{_≡_, refl, sym, ap, _∙_, subst}
 use mathlib.Core.List.{List, [], _∷_, map, List·Memᴰ, List·Memᴰ·head, List·Memᴰ·tail}
@@ -15,7 +15,7 @@ use Rattle.error.specs.declared.UdxError.{UdxError}
 use Rattle.error.specs.declared.UdxError.the-variants as error
 use Rattle.error.specs.declared.Refusal.{Refusal}
 use Rattle.error.specs.declared.Outcome.{Outcome}
-use Rattle.error.specs.declared.Outcome.the-variants.{Ready, Waiting, Refused}
+use Rattle.error.specs.declared.Outcome.the-variants.{Ready, Waiting}
 use Rattle.packet.specs.declared.header.Header.{Header}
 use Rattle.packet.specs.Header.{fields, decoded, Encodes}
 use Rattle.model.specs.Lists.{Bytes, isEmpty}
@@ -28,7 +28,6 @@ use Rattle.model.specs.Driving as model
 use Rattle.model.specs.Driving.{drained, driveRefusal, driveTests, drive, takeRefusal, takeTests}
 use Rattle.model.specs.Order.{number, refusedBy, undecodedBy}
 use Rattle.model.proofs.Lists.{by-test}
-use Rattle.model.proofs.Gate.{by-gate}
 use Rattle.model.proofs.Order.{refusals-in-order}
 use Rattle.model.proofs.Slots.{no-some, some-inj}
 use Rattle.records.specs.Open.{openWhy, openedOutcome}

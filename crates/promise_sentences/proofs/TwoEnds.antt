@@ -1,19 +1,15 @@
 -- Demand 3 in 01's sentences: each from the field of the promise that renders it. What all promises have in common is derived once, of
 -- lists; the rest says where the lists come from. Assumes nothing.
 use Prim.Native.Nat.{ℕ, _+_, _*_, _%_, _≤_, _<_}
-use native.Mathlib.Omega.{arith}
 use mathlib.Core.Path.{_≡_, refl, sym, ap, _∙_}
-use mathlib.Core.List.{List, [], _∷_, _++_, List·Memᴰ}
-use mathlib.Core.Logic.{inl, inr}
-use mathlib.Core.Option.{some}
+use mathlib.Core.List.{List, [], _++_, List·Memᴰ}
 use mathlib.Core.Bool.{Bool, true, false}
 use lib.Dec.{ltb}
 use lib.ListN.{length, take, drop, getD, length-append, take-append-drop}
 use lib.Seq.{getD-take, getD-drop}
 use borrow.Author.Tests.{ltb-true, ltb-false}
 use Rattle.model.specs.Lists.{Bytes, joined}
-use Rattle.model.specs.Slots.{get}
-use Rattle.model.specs.Stream.{Packet, Held, End}
+use Rattle.model.specs.Stream.{Packet, Held}
 use Rattle.model.specs.TwoEnds as model
 use Rattle.model.specs.TwoEnds.{unreadInOrder}
 use Rattle.model.proofs.Slots.{some-inj}
@@ -22,27 +18,11 @@ use Rattle.promise.specs.Runs.{Records, seenOf}
 use Rattle.promise.specs.TwoEndsOnRecords as records
 use Rattle.promise.proofs.TwoEndsOnRecords.{two-ends-on-records}
 use Rattle.flat.specs.Flat.{streamOf}
-use Rattle.promise_ways.specs.Calls.{recordsOf}
 use Rattle.promise_ways.specs.FromC.{PlainSide, sideOf, CarriedInC}
 use Rattle.promise_ways.specs.Mixed.{CarriedEitherWay}
 use Rattle.promise_ways.proofs.FromC.{two-ends-from-c}
 use Rattle.promise_ways.proofs.Mixed.{two-ends-mixed}
-use Rattle.promise_sentences.specs.TwoEnds.{
-  StoredIn,
-  HeldIn,
-  CarriesInModel,
-  DemandThreeInModel,
-  UnreadOn,
-  CarriesOnRecords,
-  LiesOnRecords,
-  BothOnRecords,
-  DemandThreeOnRecords,
-  UnreadInC,
-  BothInC,
-  DemandThreeFromC,
-  UnreadMixed,
-  DemandThreeMixed,
-}
+use Rattle.promise_sentences.specs.TwoEnds.{StoredIn, HeldIn, CarriesInModel, DemandThreeInModel, UnreadOn, BothOnRecords, DemandThreeOnRecords, UnreadInC, BothInC, DemandThreeFromC, UnreadMixed, DemandThreeMixed}
 
 -- of lists
 

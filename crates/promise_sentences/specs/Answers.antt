@@ -6,7 +6,7 @@ use Prim.Native.Nat.{ℕ, _+_, _≤_, _<_}
 use mathlib.Core.Path.{_≡_}
 use mathlib.Core.List.{List, [], _∷_}
 use mathlib.Core.Option.{Option, none}
-use mathlib.Core.Bool.{Bool, true}
+use mathlib.Core.Bool.{true}
 use lib.ListN.{length}
 use Rattle.error.specs.Answers.{numberOf}
 use Rattle.error.specs.declared.UdxError.{UdxError}
@@ -204,8 +204,10 @@ pub record AfterCallsInC (x : Plain) (e : End) : Type 0 where
       (λ v. segmentOf (v .step .segment))
       (λ v. seenOf (recordsOf (plainLeft v)))
   pub never-one : (v : PlainEvent) → PlainDid x v → v .step .refusal ≡ 1 → ⊥
-  -- the part that is named has these bytes, and lies in its store
+  -- the part that is named has these bytes and no more, and lies in its store, the header store at 1 and the outgoing store at 0
   pub look : (p : FlatPart) → Looks (x .stream) (x .totals) (x .lent) p → Shows (bytesOf p (x .lent .outgoing) (x .lent .headers)) e
+  pub look-length : (p : FlatPart) → Looks (x .stream) (x .totals) (x .lent) p → p .length ≡ length (bytesOf p (x .lent .outgoing) (x .lent .headers))
+  pub look-flag : (p : FlatPart) → Looks (x .stream) (x .totals) (x .lent) p → p .header ≤ 1
   pub look-within : (p : FlatPart) → Looks (x .stream) (x .totals) (x .lent) p → p .start + p .length ≤ length (storeOf p (x .lent .outgoing) (x .lent .headers))
 
 abbrev pub DemandTwoFromC : Type 0

@@ -16,15 +16,20 @@ use Rattle.model.specs.Lists.{Bytes, cut}
 use Rattle.model.specs.Answers.{Answer}
 use Rattle.model.specs.Calls.{Call, writeCall, deliverCall, takeCall, readCall, answer}
 use Rattle.model.specs.TwoEnds as model
-use Rattle.model.specs.TwoEnds.{History}
+use Rattle.model.specs.TwoEnds.{History, Id}
+use Rattle.records.specs.declared.opening.Opened.{Opened}
+use Rattle.records.specs.Seen.{Lent}
+use Rattle.records.specs.Open.{Opens}
 use Rattle.answers.specs.declared.step.Step.{Step}
-use Rattle.promise.specs.Runs.{Records, Request, toWrite, toDeliver, toTake, toRead, Event, left, Did}
-use Rattle.promise.specs.TwoEndsOnRecords.{noted, Ends, Turn, onA, onB, turned, OverALine}
-use Rattle.promise_ways.specs.Calls.{Plain, PlainEvent, PlainDid, plainLeft, stepOf, eventOf}
+use Rattle.promise.specs.Runs.{Records, Request, toWrite, toDeliver, toTake, toRead, Event, left, Did, Run, OpenedBy}
+use Rattle.promise.specs.TwoEndsOnRecords.{noted, Ends, Turn, onA, onB, turned, OverALine, ReadsAlone}
+use Rattle.flat.specs.declared.structs.FlatStep.{FlatStep}
+use Rattle.udx_c.specs.Crosses.{FlatOpens}
+use Rattle.promise_ways.specs.Calls.{Plain, PlainEvent, PlainDid, PlainRun, plainLeft, stepOf, openedOf, eventOf, OpenedInC}
 use Rattle.promise_ways.specs.FromC as c
-use Rattle.promise_ways.specs.FromC.{PlainEnds, PlainTurn, plainTurned, PlainOverALine}
+use Rattle.promise_ways.specs.FromC.{PlainEnds, PlainTurn, plainTurned, PlainOverALine, PlainReadsAlone}
 use Rattle.promise_ways.specs.Mixed as mixed
-use Rattle.promise_ways.specs.Mixed.{Mixed, inC, asEvent, MixedDid, plainOf, MixedTurn, MixedOverALine}
+use Rattle.promise_ways.specs.Mixed.{Mixed, inC, asEvent, MixedDid, plainOf, OpenedEither, MixedRun, MixedTurn, MixedOverALine, MixedReadsAlone}
 
 -- what a history counts
 
@@ -81,28 +86,54 @@ pub data Allowed (taken : List Bytes) (o : Outcome) : Request → Type 0 where
   copy : {datagram : Bytes} {clock : ℕ} → List·Memᴰ datagram taken → Allowed taken o (toDeliver datagram clock)
   refused : {datagram : Bytes} {clock : ℕ} (why : Refusal) → o ≡ Refused why → Allowed taken o (toDeliver datagram clock)
 
--- any such call at either end makes a longer list over the line
+-- Any two ends that open handed out are a start, and any such call at either end makes a longer list over the line; reads alone are any
+-- "1,380 at a time, .. up to the first that puts none". So too for lists of calls on one end, with any datagrams.
 pub record AnyLine : Type 0 where
+  pub opened : (local remote segments clock : ℕ) (l : Lent) (o : Opened) → Opens local remote segments clock (l .outgoing) (l .incoming) (l .headers) o
+      → o .outcome ≡ Ready → OpenedBy local remote segments clock l o
   pub none-yet : (w : Ends) → OverALine [] w
   pub on-a : (v : Event) (cs : List Turn) (w : Ends) → Did (w .a .records) v → Allowed (w .b .past .taken) (v .step .outcome) (v .request)
       → OverALine cs (turned (onA v) w) → OverALine (onA v ∷ cs) w
   pub on-b : (v : Event) (cs : List Turn) (w : Ends) → Did (w .b .records) v → Allowed (w .a .past .taken) (v .step .outcome) (v .request)
       → OverALine cs (turned (onB v) w) → OverALine (onB v ∷ cs) w
+  pub last-read : (v : Event) (buf : Bytes) (x : Records) → v .request ≡ toRead buf → length buf ≡ 1_380 → Did x v → v .step .count ≡ 0 → ReadsAlone [] v x
+  pub one-more-read : (v : Event) (vs : List Event) (last : Event) (buf : Bytes) (x : Records) → v .request ≡ toRead buf → length buf ≡ 1_380 → Did x v
+      → ReadsAlone vs last (left v) → ReadsAlone (v ∷ vs) last x
+  pub no-call : (x : Records) → Run [] x
+  pub one-more-call : (v : Event) (vs : List Event) (x : Records) → Did x v → Run vs (left v) → Run (v ∷ vs) x
 
 pub record AnyLineFromC : Type 0 where
+  pub opened : (local remote segments clock : ℕ) (l : Lent) (o : FlatStep) → FlatOpens local remote segments clock (l .outgoing) (l .incoming) (l .headers) o
+      → o .outcome ≡ 0 → OpenedInC local remote segments clock l o
   pub none-yet : (w : PlainEnds) → PlainOverALine [] w
   pub on-a : (v : PlainEvent) (cs : List PlainTurn) (w : PlainEnds) → PlainDid (w .a .plain) v
       → Allowed (w .b .past .taken) (stepOf (v .step) .outcome) (v .request) → PlainOverALine cs (plainTurned (c.onA v) w) → PlainOverALine (c.onA v ∷ cs) w
   pub on-b : (v : PlainEvent) (cs : List PlainTurn) (w : PlainEnds) → PlainDid (w .b .plain) v
       → Allowed (w .a .past .taken) (stepOf (v .step) .outcome) (v .request) → PlainOverALine cs (plainTurned (c.onB v) w) → PlainOverALine (c.onB v ∷ cs) w
+  pub last-read : (v : PlainEvent) (buf : Bytes) (x : Plain) → v .request ≡ toRead buf → length buf ≡ 1_380 → PlainDid x v → v .step .count ≡ 0
+      → PlainReadsAlone [] v x
+  pub one-more-read : (v : PlainEvent) (vs : List PlainEvent) (last : PlainEvent) (buf : Bytes) (x : Plain) → v .request ≡ toRead buf → length buf ≡ 1_380
+      → PlainDid x v → PlainReadsAlone vs last (plainLeft v) → PlainReadsAlone (v ∷ vs) last x
+  pub no-call : (x : Plain) → PlainRun [] x
+  pub one-more-call : (v : PlainEvent) (vs : List PlainEvent) (x : Plain) → PlainDid x v → PlainRun vs (plainLeft v) → PlainRun (v ∷ vs) x
 
 -- with the ways mixed: a call from C is handed any numbers that stand for the records, such as those that another one handed back
 pub record AnyMixedLine : Type 0 where
+  pub opened-in-rattle : (local remote segments clock : ℕ) (l : Lent) (o : Opened) → OpenedBy local remote segments clock l o
+      → OpenedEither local remote segments clock l o
+  pub opened-in-c : (local remote segments clock : ℕ) (l : Lent) (o : FlatStep) → OpenedInC local remote segments clock l o
+      → OpenedEither local remote segments clock l (openedOf o)
   pub none-yet : (w : Ends) → MixedOverALine [] w
   pub on-a : (v : Mixed) (cs : List MixedTurn) (w : Ends) → MixedDid (w .a .records) v → Allowed (w .b .past .taken) (asEvent v .step .outcome) (asEvent v .request)
       → MixedOverALine cs (turned (onA (asEvent v)) w) → MixedOverALine (mixed.onA v ∷ cs) w
   pub on-b : (v : Mixed) (cs : List MixedTurn) (w : Ends) → MixedDid (w .b .records) v → Allowed (w .a .past .taken) (asEvent v .step .outcome) (asEvent v .request)
       → MixedOverALine cs (turned (onB (asEvent v)) w) → MixedOverALine (mixed.onB v ∷ cs) w
+  pub last-read : (v : Mixed) (buf : Bytes) (x : Records) → asEvent v .request ≡ toRead buf → length buf ≡ 1_380 → MixedDid x v → asEvent v .step .count ≡ 0
+      → MixedReadsAlone [] v x
+  pub one-more-read : (v : Mixed) (vs : List Mixed) (last : Mixed) (buf : Bytes) (x : Records) → asEvent v .request ≡ toRead buf → length buf ≡ 1_380
+      → MixedDid x v → MixedReadsAlone vs last (left (asEvent v)) → MixedReadsAlone (v ∷ vs) last x
+  pub no-call : (x : Records) → MixedRun [] x
+  pub one-more-call : (v : Mixed) (vs : List Mixed) (x : Records) → MixedDid x v → MixedRun vs (left (asEvent v)) → MixedRun (v ∷ vs) x
   -- on any records the next call may be one from C
   pub to-c : (x : Records) (v : PlainEvent) → PlainDid (plainOf x) v → MixedDid x (inC (plainOf x) v)
   -- and the one after it may be handed what that one handed back
@@ -119,6 +150,8 @@ pub data AllowedCall (taken : List Bytes) (o : Outcome) : Call → Type 0 where
   refused : {datagram : Bytes} {clock : ℕ} (why : Refusal) → o ≡ Refused why → AllowedCall taken o (deliverCall datagram clock)
 
 pub record AnyLineInModel : Type 0 where
+  -- an id is any number of 4 bytes (01, 'Records': "stream id (4)")
+  pub any-id : (i : ℕ) → i < 4_294_967_296 → Id i
   pub none-yet : (w : model.Ends) → model.OverALine [] w
   pub on-a : (q : Call) (cs : List model.Command) (w : model.Ends) → AllowedCall (w .b .past .taken) ((answer q (w .a .end)) .outcome) q
       → model.OverALine cs (model.step (model.onA q) w) → model.OverALine (model.onA q ∷ cs) w

@@ -4,7 +4,7 @@
 -- are proofs/TwoEnds.antt. Assumes nothing.
 use Prim.Native.Nat.{ℕ, _+_, _*_, _%_, _≤_, _<_}
 use mathlib.Core.Path.{_≡_}
-use mathlib.Core.List.{List, [], _∷_, _++_, List·Memᴰ}
+use mathlib.Core.List.{List, [], _++_, List·Memᴰ}
 use mathlib.Core.Option.{none, some}
 use lib.ListN.{length, drop, getD}
 use Rattle.model.specs.Lists.{Bytes, joined}

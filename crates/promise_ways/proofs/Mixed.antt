@@ -1,7 +1,7 @@
 -- Lists that mix the ways to make a call: a call from C on numbers that stand for the records is the call on those records (`one`, in
 -- FromC.antt), so a mixed list is a list of calls on the records, and their theorems hold of it. Assumes nothing.
 use Prim.Native.Nat.{ℕ}
-use mathlib.Core.Path.{_≡_, refl, subst}
+use mathlib.Core.Path.{refl, subst}
 use mathlib.Core.List.{List, [], _∷_}
 use mathlib.Core.Logic.{inl, inr}
 use Rattle.records.specs.declared.opening.Opened.{Opened}
