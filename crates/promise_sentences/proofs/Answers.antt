@@ -22,7 +22,7 @@ use Rattle.model.specs.Driving.{drained, driveRefusal, takeRefusal, look}
 use Rattle.model.specs.Calls.{Call, writeCall, deliverCall, driveCall, takeCall, answer}
 use Rattle.model.proofs.Lists.{by-test}
 use Rattle.model.proofs.Gate.{by-gate, gate-open, and-left, and-right}
-use Rattle.model.proofs.NeverBroken.{never-broken}
+use Rattle.model_rules.proofs.NeverBroken.{never-broken}
 use Rattle.records.specs.Seen.{seenQueue, seen}
 use Rattle.promise.specs.Runs.{Records, callOf, callsOf, Event, Did, answerOf, Same}
 use Rattle.promise.proofs.Runs.{open-clear, same-as-model}

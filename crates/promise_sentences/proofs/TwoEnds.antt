@@ -10,10 +10,10 @@ use lib.Seq.{getD-take, getD-drop}
 use borrow.Author.Tests.{ltb-true, ltb-false}
 use Rattle.model.specs.Lists.{Bytes, joined}
 use Rattle.model.specs.Stream.{Packet, Held}
-use Rattle.model.specs.TwoEnds as model
-use Rattle.model.specs.TwoEnds.{unreadInOrder}
+use Rattle.model_ends.specs.TwoEnds as model
+use Rattle.model_ends.specs.TwoEnds.{unreadInOrder}
 use Rattle.model.proofs.Slots.{some-inj}
-use Rattle.model.proofs.TwoEnds.{two-ends}
+use Rattle.model_ends.proofs.TwoEnds.{two-ends}
 use Rattle.promise.specs.Runs.{Records, seenOf}
 use Rattle.promise.specs.TwoEndsOnRecords as records
 use Rattle.promise.proofs.TwoEndsOnRecords.{two-ends-on-records}

@@ -15,8 +15,8 @@ use Rattle.packet.specs.Header.{fields, hasType}
 use Rattle.model.specs.Lists.{Bytes, cut}
 use Rattle.model.specs.Answers.{Answer}
 use Rattle.model.specs.Calls.{Call, writeCall, deliverCall, takeCall, readCall, answer}
-use Rattle.model.specs.TwoEnds as model
-use Rattle.model.specs.TwoEnds.{History, Id}
+use Rattle.model_ends.specs.TwoEnds as model
+use Rattle.model_ends.specs.TwoEnds.{History, Id}
 use Rattle.records.specs.declared.opening.Opened.{Opened}
 use Rattle.records.specs.Seen.{Lent}
 use Rattle.records.specs.Open.{Opens}

@@ -11,8 +11,8 @@ use Rattle.model.specs.Lists.{Bytes, joined}
 use Rattle.model.specs.Slots.{get}
 use Rattle.model.specs.Stream.{Packet, Held, End}
 use Rattle.model.specs.Sending.{openRefusal}
-use Rattle.model.specs.TwoEnds as model
-use Rattle.model.specs.TwoEnds.{unreadInOrder, Id}
+use Rattle.model_ends.specs.TwoEnds as model
+use Rattle.model_ends.specs.TwoEnds.{unreadInOrder, Id}
 use Rattle.records.specs.declared.opening.Opened.{Opened}
 use Rattle.records.specs.Seen.{Lent}
 use Rattle.promise.specs.Runs.{Records, seenOf, Event, OpenedBy}
