@@ -22,7 +22,7 @@ use Rattle.promise.specs.TwoEndsOnRecords.{Side, Brings}
 use Rattle.promise_ways.specs.FromC.{sideOf}
 use Rattle.promise_ways.specs.Mixed.{asEvent}
 use Rattle.promise_ways.proofs.Mixed.{crossing}
-use Rattle.promise_sentences.specs.Histories.{Counted, CountedInModel, Allowed, no-delivery, copy, refused, AnyLine, AnyLineFromC, AnyMixedLine, AllowedCall, AnyLineInModel}
+use Rattle.promise_sentences.specs.Histories.{Counted, CountedInModel, GoesOn, Allowed, no-delivery, copy, refused, AnyLine, AnyLineFromC, AnyMixedLine, AllowedCall, AnyLineInModel}
 
 nothing-more : (h : History) → record { accepted = h .accepted; pieces = h .pieces; reads = h .reads; taken = h .taken; brought = h .brought ++ [] } ≡ h
 nothing-more h =
@@ -62,6 +62,33 @@ counted-in-model =
       other-delivery = λ datagram clock a h d. rw (d, either-none (isRefused (a .outcome))) (nothing-more h);
       takes-pieces = λ room a h size e. rw e refl;
       takes-all = λ room a h b bytes e f. rw (e, f) refl;
+      unread-none = λ e none. rw none refl;
+    }
+
+-- how a list goes on
+
+pub goes-on : GoesOn
+goes-on =
+    record {
+      after-call = λ v vs x. refl;
+      after-call-on-a = λ v cs w. refl;
+      after-call-on-b = λ v cs w. refl;
+      after-call-in-c = λ v vs x. refl;
+      after-call-in-c-on-a = λ v cs w. refl;
+      after-call-in-c-on-b = λ v cs w. refl;
+      after-call-in-model = λ q qs e. refl;
+      after-call-in-model-on-a = λ q cs w. refl;
+      after-call-in-model-on-b = λ q cs w. refl;
+      calls = λ v vs. refl;
+      calls-in-c = λ v vs. refl;
+      writes = λ bytes. refl;
+      delivers = λ datagram clock. refl;
+      drives = λ clock. refl;
+      takes = λ buf. refl;
+      reads = λ buf. refl;
+      closes = refl;
+      take-puts = λ buf buf′ count. refl;
+      read-puts = λ buf buf′ count. refl;
     }
 
 -- lines

@@ -119,7 +119,7 @@ pub record ReadsBlock (payload : Bytes) (at : ℕ) (r : Next) : Type 0 where
 module _ {M : Type 1} (𝓤 : URA M) where
   open Connectives (connectives 𝓤) using (⌜_⌝)
 
-  -- "no exported function has a `requires`": whatever the caller holds is enough; and what it is handed back entails the sentence
+  -- it requires nothing, so whatever the caller holds is enough; and what it ensures entails the sentence
   abbrev pub Promises : (requires ensures : SProp 𝓤) → Type 0 → Type 2
   Promises requires ensures sentence = ((held : SProp 𝓤) → ent 𝓤 held requires) × ent 𝓤 ensures ⌜ sentence ⌝
 

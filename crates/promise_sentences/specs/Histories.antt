@@ -1,7 +1,7 @@
 -- What demand 3 is about, in the sentences of 01, 'What the contracts say', 4, and of call 5: which bytes, packets and numbers a history has
--- after a call (`Counted` on the records and from C, `CountedInModel`), and which lists of calls are over a line (`AnyLine`, `AnyLineFromC`,
--- `AnyMixedLine`, `AnyLineInModel`): all of those that 01 allows, so that the two-end theorems leave none out. Statements only: the proofs are
--- proofs/Histories.antt. Assumes nothing.
+-- after a call (`Counted` on the records and from C, `CountedInModel`), how a list goes on (`GoesOn`), and which lists of calls are over a
+-- line (`AnyLine`, `AnyLineFromC`, `AnyMixedLine`, `AnyLineInModel`): all of those that 01 allows, so that the two-end theorems leave none
+-- out. Statements only: the proofs are proofs/Histories.antt. Assumes nothing.
 use Prim.Native.Nat.{ℕ, suc, _<_}
 use mathlib.Core.Path.{_≡_}
 use mathlib.Core.List.{List, [], _∷_, _++_, List·Memᴰ}
@@ -14,20 +14,23 @@ use Rattle.error.specs.declared.Outcome.the-variants.{Ready, Refused}
 use Rattle.packet.specs.Header.{fields, hasType}
 use Rattle.model.specs.Lists.{Bytes, cut}
 use Rattle.model.specs.Answers.{Answer}
-use Rattle.model.specs.Calls.{Call, writeCall, deliverCall, takeCall, readCall, answer}
+use Rattle.model.specs.Stream.{End}
+use Rattle.model.specs.Receiving.{read}
+use Rattle.model.specs.Calls.{Call, writeCall, deliverCall, driveCall, takeCall, readCall, closeCall, answer, after}
 use Rattle.model_ends.specs.TwoEnds as model
-use Rattle.model_ends.specs.TwoEnds.{History, Id}
+use Rattle.model_ends.specs.TwoEnds.{History, unreadInOrder, Id}
 use Rattle.records.specs.declared.opening.Opened.{Opened}
 use Rattle.records.specs.Seen.{Lent}
 use Rattle.records.specs.Open.{Opens}
 use Rattle.answers.specs.declared.step.Step.{Step}
-use Rattle.promise.specs.Runs.{Records, Request, toWrite, toDeliver, toTake, toRead, Event, left, Did, Run, OpenedBy}
-use Rattle.promise.specs.TwoEndsOnRecords.{noted, Ends, Turn, onA, onB, turned, OverALine, ReadsAlone}
+use Rattle.promise.specs.Runs as runs
+use Rattle.promise.specs.Runs.{Records, Request, toWrite, toDeliver, toDrive, toTake, toRead, toClose, callOf, Event, left, Did, putBy, Run, callsOf, OpenedBy}
+use Rattle.promise.specs.TwoEndsOnRecords.{noted, Ends, Turn, onA, onB, turned, lastOf, OverALine, ReadsAlone}
 use Rattle.flat.specs.declared.structs.FlatStep.{FlatStep}
 use Rattle.udx_c.specs.Crosses.{FlatOpens}
-use Rattle.promise_ways.specs.Calls.{Plain, PlainEvent, PlainDid, PlainRun, plainLeft, stepOf, openedOf, eventOf, OpenedInC}
+use Rattle.promise_ways.specs.Calls.{Plain, PlainEvent, PlainDid, PlainRun, plainLeft, plainLast, stepOf, openedOf, eventOf, eventsOf, OpenedInC}
 use Rattle.promise_ways.specs.FromC as c
-use Rattle.promise_ways.specs.FromC.{PlainEnds, PlainTurn, plainTurned, PlainOverALine, PlainReadsAlone}
+use Rattle.promise_ways.specs.FromC.{PlainEnds, PlainTurn, plainTurned, plainLastOf, PlainOverALine, PlainReadsAlone}
 use Rattle.promise_ways.specs.Mixed as mixed
 use Rattle.promise_ways.specs.Mixed.{Mixed, inC, asEvent, MixedDid, plainOf, OpenedEither, MixedRun, MixedTurn, MixedOverALine, MixedReadsAlone}
 
@@ -72,6 +75,62 @@ pub record CountedInModel : Type 0 where
       → model.noted (takeCall room) a h .taken ≡ h .taken ++ cut (length (a .bytes)) size (a .bytes)
   pub takes-all : (room : ℕ) (a : Answer) (h : History) (b : ℕ) (bytes : Bytes) → a .segment ≡ none → a .bytes ≡ b ∷ bytes
       → model.noted (takeCall room) a h .taken ≡ h .taken ++ ((b ∷ bytes) ∷ [])
+  -- "up to the first that puts none"
+  pub unread-none : (e : End) → (read 1_380 e) .bytes ≡ [] → unreadInOrder e ≡ []
+
+-- how a list goes on
+
+-- each call goes on from what the one before it left, and is the definition's call with what its caller brought
+pub record GoesOn : Type 0 where
+  pub after-call : (v : Event) (vs : List Event) (x : Records)
+      → runs.lastOf (v ∷ vs) x ≡ runs.lastOf vs (record { stream = v .step .stream; totals = v .step .totals; lent = v .lent })
+  pub after-call-on-a : (v : Event) (cs : List Turn) (w : Ends)
+      → lastOf (onA v ∷ cs) w
+      ≡ lastOf cs
+      (record {
+        a = record { records = record { stream = v .step .stream; totals = v .step .totals; lent = v .lent }; past = noted (v .request) (v .step) (v .buf) (w .a .past) };
+        b = w .b;
+      })
+  pub after-call-on-b : (v : Event) (cs : List Turn) (w : Ends)
+      → lastOf (onB v ∷ cs) w
+      ≡ lastOf cs
+      (record {
+        a = w .a;
+        b = record { records = record { stream = v .step .stream; totals = v .step .totals; lent = v .lent }; past = noted (v .request) (v .step) (v .buf) (w .b .past) };
+      })
+  pub after-call-in-c : (v : PlainEvent) (vs : List PlainEvent) (x : Plain)
+      → plainLast (v ∷ vs) x ≡ plainLast vs (record { stream = v .step .stream; totals = v .step .totals; lent = v .lent })
+  pub after-call-in-c-on-a : (v : PlainEvent) (cs : List PlainTurn) (w : PlainEnds)
+      → plainLastOf (c.onA v ∷ cs) w
+      ≡ plainLastOf cs
+      (record {
+        a = record { plain = record { stream = v .step .stream; totals = v .step .totals; lent = v .lent }; past = noted (v .request) (stepOf (v .step)) (v .buf) (w .a .past) };
+        b = w .b;
+      })
+  pub after-call-in-c-on-b : (v : PlainEvent) (cs : List PlainTurn) (w : PlainEnds)
+      → plainLastOf (c.onB v ∷ cs) w
+      ≡ plainLastOf cs
+      (record {
+        a = w .a;
+        b = record { plain = record { stream = v .step .stream; totals = v .step .totals; lent = v .lent }; past = noted (v .request) (stepOf (v .step)) (v .buf) (w .b .past) };
+      })
+  pub after-call-in-model : (q : Call) (qs : List Call) (e : End) → after (q ∷ qs) e ≡ after qs ((answer q e) .end)
+  pub after-call-in-model-on-a : (q : Call) (cs : List model.Command) (w : model.Ends)
+      → let a = answer q (w .a .end) in
+      model.run (model.onA q ∷ cs) w ≡ model.run cs (record { a = record { end = a .end; past = model.noted q a (w .a .past) }; b = w .b })
+  pub after-call-in-model-on-b : (q : Call) (cs : List model.Command) (w : model.Ends)
+      → let a = answer q (w .b .end) in
+      model.run (model.onB q ∷ cs) w ≡ model.run cs (record { a = w .a; b = record { end = a .end; past = model.noted q a (w .b .past) } })
+  pub calls : (v : Event) (vs : List Event) → callsOf (v ∷ vs) ≡ callOf (v .request) ∷ callsOf vs
+  pub calls-in-c : (v : PlainEvent) (vs : List PlainEvent) → callsOf (eventsOf (v ∷ vs)) ≡ callOf (v .request) ∷ callsOf (eventsOf vs)
+  pub writes : (bytes : Bytes) → callOf (toWrite bytes) ≡ writeCall bytes
+  pub delivers : (datagram : Bytes) (clock : ℕ) → callOf (toDeliver datagram clock) ≡ deliverCall datagram clock
+  pub drives : (clock : ℕ) → callOf (toDrive clock) ≡ driveCall clock
+  pub takes : (buf : Bytes) → callOf (toTake buf) ≡ takeCall (length buf)
+  pub reads : (buf : Bytes) → callOf (toRead buf) ≡ readCall (length buf)
+  pub closes : callOf toClose ≡ closeCall
+  pub take-puts : (buf buf′ : Bytes) (count : ℕ) → putBy (toTake buf) count buf′ ≡ take count buf′
+  pub read-puts : (buf buf′ : Bytes) (count : ℕ) → putBy (toRead buf) count buf′ ≡ take count buf′
 
 -- which lists are over a line
 
