@@ -252,17 +252,11 @@ look-shows shown s t l is =
 
 pub opens-fresh : (local remote segments clock : ℕ) (outgoing incoming headers : Bytes) (r : Opened) → Opens local remote segments clock outgoing incoming headers r
     → r .outcome ≡ Ready
-    → (numbersOn (r .stream) (r .totals) ≡ freshNumbers clock) × (r .stream .ids .local ≡ local) × (r .stream .ids .remote ≡ remote)
-    × (r .stream .ids .segments ≡ segments)
+    → numbersOn (r .stream) (r .totals) ≡ freshNumbers local remote segments clock
 unfolding seenQueue seen fresh
 opens-fresh local remote segments clock outgoing incoming headers r does ready =
     let l = lent [] [] [] outgoing incoming headers in
-    let end = open-stands local remote segments clock l r (record { opens = does; ready = ready }) .end in (
-      ap numbersOf end,
-      ap (λ (e : End). e .ids .local) end,
-      ap (λ (e : End). e .ids .remote) end,
-      ap (λ (e : End). e .ids .segments) end,
-    )
+    ap numbersOf (open-stands local remote segments clock l r (record { opens = does; ready = ready }) .end)
 
 -- header coding and blocks
 

@@ -51,7 +51,9 @@ use Rattle.udx_c.specs.declared.codec.FlatHeader.{FlatHeader}
 use Rattle.udx_c.specs.declared.codec.FlatDecoded.{FlatDecoded}
 use Rattle.udx_c.specs.Coded.{headerOf, flatHeader, flatDecoded, FlatEncodes}
 use Rattle.udx_c.specs.Crosses.{Crosses, FlatOpens}
-use Rattle.udx_c.specs.Shown.{storeOf, bytesOf, Looks}
+use Rattle.udx_c.specs.Shown.{flatPart, storeOf, bytesOf, Looks}
+use Rattle.udx_c.proofs.ShownLaws.{looks-shown}
+use Rattle.places.specs.Place.{lookedPart}
 use Rattle.promise_ways.proofs.Contracts.{contracts-of-c}
 use Rattle.promise_ways.proofs.FromC.{broken-is}
 use Rattle.promise_sentences.specs.Answers.{numbersOn, numbersInC}
@@ -320,19 +322,19 @@ module _ (s : FlatStream) (t : FlatTotals) (before : Lent) (r : FlatStep) (after
 
 look-in-c : (s : FlatStream) (t : FlatTotals) (l : Lent) (r : FlatPart) → Looks s t l r
     → (isStrange (s .ending) ≡ false
-    → LookShows (bytesOf r (l .outgoing) (l .headers)) (streamOf s) (totalsOf t) l × (r .start + r .length ≤ length (storeOf r (l .outgoing) (l .headers))))
+    → LookShows (bytesOf r (l .outgoing) (l .headers)) (streamOf s) (totalsOf t) l
+    × (r .start + r .length ≤ length (storeOf r (l .outgoing) (l .headers)))
+    × (r ≡ flatPart (lookedPart (streamOf s) (totalsOf t) l)))
     × (isStrange (s .ending) ≡ true → r .length ≡ 0)
 look-in-c s t l r d = (
-  λ k. (look-shows (bytesOf r (l .outgoing) (l .headers)) (streamOf s) (totalsOf t) l (d .known k .bytes), d .known k .within),
+  λ k. (let shown = looks-shown s t l r d k in
+      (look-shows (bytesOf r (l .outgoing) (l .headers)) (streamOf s) (totalsOf t) l (shown .bytes), shown .within, d .known k)),
   λ k. ap (λ (p : FlatPart). p .length) (d .strange k),
 )
 
 open-in-c : (local remote segments clock : ℕ) (outgoing incoming headers : Bytes) (r : FlatStep) → FlatOpens local remote segments clock outgoing incoming headers r
     → (r .outcome ≡ 0
-    → (numbersInC (r .stream) (r .totals) ≡ freshNumbers clock)
-    × (r .stream .ids .local ≡ local)
-    × (r .stream .ids .remote ≡ remote)
-    × (r .stream .ids .segments ≡ segments))
+    → numbersInC (r .stream) (r .totals) ≡ freshNumbers local remote segments clock)
     × (storesTest outgoing incoming headers ≡ true → r .refusal ≡ 1)
 unfolding flatOpened flatStream streamOf totalsOf openWhy
 open-in-c local remote segments clock outgoing incoming headers r d =
@@ -341,12 +343,7 @@ open-in-c local remote segments clock outgoing incoming headers r d =
     let totals : totalsOf (r .totals) ≡ o .totals = ap (λ (z : FlatStep). totalsOf (z .totals)) (d .flat) ∙ comes-back .totals (o .totals) in (
       λ ok.
           (let ready : o .outcome ≡ outcome.Ready = ready-as (o .outcome) (sym (ap (λ (z : FlatStep). z .outcome) (d .flat)) ∙ ok) in
-          let (numbers, l, m, n) = opens-fresh local remote segments clock outgoing incoming headers o (d .does) ready in (
-            ap₂ numbersOn stream totals ∙ numbers,
-            ap (λ (z : Stream). z .ids .local) stream ∙ l,
-            ap (λ (z : Stream). z .ids .remote) stream ∙ m,
-            ap (λ (z : Stream). z .ids .segments) stream ∙ n,
-          )),
+          ap₂ numbersOn stream totals ∙ opens-fresh local remote segments clock outgoing incoming headers o (d .does) ready),
       λ short. ap (λ (z : FlatStep). z .refusal) (d .flat) ∙ ap refusalByte (d .does .outcome) ∙ rw short refl,
     )
 

@@ -42,8 +42,7 @@ session-sentences 𝓤 H A mem run =
       ends = λ κs x r y.
           promises 𝓤 _ _ _ _ (fresh-end 𝓤 H A mem run κs x r y)
           (λ d sized.
-          (let (numbers, local, remote, segments) = opens-fresh _ _ _ _ _ _ _ _ (d .opens) (ends-ready _ _ _ _ _ _ (d .opens) sized) in
-          (numbers, local, remote, segments, d .sent, d .held, d .queue, d .kept)));
+          (opens-fresh _ _ _ _ _ _ _ _ (d .opens) (ends-ready _ _ _ _ _ _ (d .opens) sized), d .sent, d .held, d .queue, d .kept));
       turns = λ κs x r y. (
         promises-first 𝓤 _ _ _ _ _ (runs-one 𝓤 H A mem run κs x r y) (λ d l. (d .on l, d .within)),
         promises-second 𝓤 _ _ _ _ _ (runs-one 𝓤 H A mem run κs x r y) (λ d l zero one. let p = d l zero one in (p .line, p .next)),

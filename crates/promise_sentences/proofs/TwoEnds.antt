@@ -63,6 +63,7 @@ in-model s r c =
       equation = equation;
       counts = λ unread e. lengths accepted read unread rest (equation unread e);
       all-went = sym (c .pieces);
+      numbered = sym (c .numbered);
       none-lost = λ n l u. c .kept n l u;
       stored-is-piece = λ n payload (p, e, q). let (l, is) = c .stored n p e in (l, sym q ∙ is);
       held-is-piece = λ n payload (h, e, q). let (l, is) = c .held n h e in (l, sym q ∙ is);
@@ -102,6 +103,7 @@ on-records Unread s r c is =
         equation = equation;
         counts = λ unread h. lengths accepted read unread rest (equation unread h);
         all-went = sym (c .pieces);
+        numbered = sym (c .numbered);
         none-lost = λ n l u. let b = c .kept n l u in (b .packet, b .stored, b .payload);
         stored-is-piece = stored;
         held-is-piece = held;

@@ -6,7 +6,8 @@ use Prim.Native.Nat.{ℕ, _+_, _≤_, _<_}
 use mathlib.Core.Path.{_≡_}
 use mathlib.Core.List.{List, [], _∷_}
 use mathlib.Core.Option.{Option, none}
-use mathlib.Core.Bool.{true}
+use mathlib.Core.Bool.{Bool, true}
+use lib.Dec.{eqb}
 use lib.ListN.{length}
 use Rattle.error.specs.Answers.{numberOf}
 use Rattle.error.specs.declared.UdxError.{UdxError}
@@ -15,7 +16,7 @@ use Rattle.error.specs.declared.Outcome.{Outcome}
 use Rattle.error.specs.declared.Outcome.the-variants.{Ready, Done, Nothing, Refused}
 use Rattle.model.specs.Lists.{Bytes}
 use Rattle.model.specs.Slots.{get}
-use Rattle.model.specs.Stream.{End, fresh}
+use Rattle.model.specs.Stream.{CloseState, End, fresh}
 use Rattle.model.specs.Sending.{goes, piece, writeRefusal}
 use Rattle.model.specs.Receiving.{deliverRefusal}
 use Rattle.model.specs.Driving.{firstThere}
@@ -23,14 +24,14 @@ use Rattle.model.specs.Calls.{Call, writeCall, deliverCall, driveCall, takeCall
 use Rattle.records.specs.declared.Stream.{Stream}
 use Rattle.records.specs.declared.Totals.{Totals}
 use Rattle.records.specs.declared.opening.Opened.{Opened}
-use Rattle.records.specs.Seen.{Lent}
+use Rattle.records.specs.Seen.{seenState, Lent}
 use Rattle.udx.specs.Agree.{segmentOf}
 use Rattle.udx.specs.Look.{shownOf}
 use Rattle.promise.specs.Runs.{Records, seenOf, callOf, Event, left, Did, putBy, Run, lastOf, callsOf, OpenedBy, handedOut}
 use Rattle.flat.specs.declared.structs.FlatStream.{FlatStream}
 use Rattle.flat.specs.declared.structs.FlatTotals.{FlatTotals}
 use Rattle.flat.specs.declared.structs.FlatStep.{FlatStep}
-use Rattle.flat.specs.Bytes.{errorOf}
+use Rattle.flat.specs.Bytes.{errorOf, stateOf}
 use Rattle.udx_c.specs.declared.batches.FlatPart.{FlatPart}
 use Rattle.udx_c.specs.Shown.{storeOf, bytesOf, Looks}
 use Rattle.promise_ways.specs.Calls.{Plain, PlainEvent, PlainDid, PlainRun, plainLeft, plainLast, plainOpened, outcomeOf, recordsOf, eventsOf, OpenedInC}
@@ -39,9 +40,12 @@ use Rattle.promise_ways.specs.Mixed.{Mixed, asEvent, asEvents, MixedDid, Opened
 -- the numbers of a stream and its totals
 
 -- 01, 'Records': "Stream: seq, ack, remote acked, read cursor, inflight, window (cwnd), srtt, rttvar, rto, deadline, error, close state,
--- largest ack since the last drive; .. clock of the last accepted call, clock of the last drive, how many queue entries that drive left to
--- take, and whether it has ended", and the totals
+-- largest ack since the last drive; also both ids, segment ceiling, clock of the last accepted call, clock of the last drive, how many
+-- queue entries that drive left to take, and whether it has ended", and the totals
 pub record Numbers : Type 0 where
+  pub local : ℕ
+  pub remote : ℕ
+  pub segments : ℕ
   pub seq : ℕ
   pub remoteAcked : ℕ
   pub largestAck : ℕ
@@ -55,6 +59,8 @@ pub record Numbers : Type 0 where
   pub deadline : ℕ
   pub left : ℕ
   pub error : UdxError
+  pub state : CloseState
+  pub ended : Bool
   pub lastClock : ℕ
   pub driveClock : ℕ
   pub txPackets : ℕ
@@ -67,6 +73,9 @@ pub record Numbers : Type 0 where
 abbrev pub numbersOf : End → Numbers
 numbersOf e =
     record {
+      local = e .ids .local;
+      remote = e .ids .remote;
+      segments = e .ids .segments;
       seq = e .sender .seq;
       remoteAcked = e .sender .remoteAcked;
       largestAck = e .sender .largestAck;
@@ -80,6 +89,8 @@ numbersOf e =
       deadline = e .timing .deadline;
       left = e .queue .left;
       error = e .ending .error;
+      state = e .ending .state;
+      ended = e .ending .ended;
       lastClock = e .clocks .last;
       driveClock = e .clocks .drive;
       txPackets = e .totals .txPackets;
@@ -93,6 +104,9 @@ numbersOf e =
 abbrev pub numbersOn : Stream → Totals → Numbers
 numbersOn s t =
     record {
+      local = s .ids .local;
+      remote = s .ids .remote;
+      segments = s .ids .segments;
       seq = s .sender .seq;
       remoteAcked = s .sender .«remote_acked»;
       largestAck = s .sender .«largest_ack»;
@@ -106,6 +120,8 @@ numbersOn s t =
       deadline = s .timing .deadline .0 .0;
       left = s .queue .left;
       error = s .ending .error;
+      state = seenState (s .ending .state);
+      ended = s .ending .ended;
       lastClock = s .clocks .last .0;
       driveClock = s .clocks .drive .0;
       txPackets = t .«tx_packets»;
@@ -119,6 +135,9 @@ numbersOn s t =
 abbrev pub numbersInC : FlatStream → FlatTotals → Numbers
 numbersInC s t =
     record {
+      local = s .ids .local;
+      remote = s .ids .remote;
+      segments = s .ids .segments;
       seq = s .sender .seq;
       remoteAcked = s .sender .«remote_acked»;
       largestAck = s .sender .«largest_ack»;
@@ -132,6 +151,8 @@ numbersInC s t =
       deadline = s .timing .deadline;
       left = s .queue .left;
       error = errorOf (s .ending .error);
+      state = seenState (stateOf (s .ending .state));
+      ended = eqb (s .ending .ended) 1;
       lastClock = s .clocks .last;
       driveClock = s .clocks .drive;
       txPackets = t .«tx_packets»;

@@ -78,9 +78,12 @@ pub record Puts (count : ℕ) (bytes before after : Bytes) : Type 0 where
   pub past : drop count after ≡ drop count before
 
 -- 01, 'Fresh': "numbers and totals 0, stores empty, no error, both sides open, window 2,800, rto 1,000 ms, deadline now + rto, queue empty"
-abbrev pub freshNumbers : ℕ → Numbers
-freshNumbers clock =
+abbrev pub freshNumbers : (local remote segments clock : ℕ) → Numbers
+freshNumbers local remote segments clock =
     record {
+      local = local;
+      remote = remote;
+      segments = segments;
       seq = 0;
       remoteAcked = 0;
       largestAck = 0;
@@ -94,6 +97,8 @@ freshNumbers clock =
       deadline = clock + 1_000_000_000;
       left = 0;
       error = error.None;
+      state = model-stream.bothOpen;
+      ended = false;
       lastClock = clock;
       driveClock = clock;
       txPackets = 0;
@@ -231,10 +236,7 @@ module _ {M : Type 1} (𝓤 : URA M) (H : Heap 𝓤) (A : Atoms 𝓤) (mem : Mem
       let c = opening.clauses 𝓤 H A mem run κs x in
       Promises 𝓤 (c .requires tt) (c .ensures tt r y)
       (r .outcome ≡ Ready
-      → (numbersOn (r .stream) (r .totals) ≡ freshNumbers (clock .0))
-      × (r .stream .ids .local ≡ local)
-      × (r .stream .ids .remote ≡ remote)
-      × (r .stream .ids .segments ≡ segments))
+      → numbersOn (r .stream) (r .totals) ≡ freshNumbers local remote segments (clock .0))
 
   -- header coding
 

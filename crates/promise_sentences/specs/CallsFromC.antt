@@ -32,7 +32,8 @@ use Rattle.flat.specs.declared.structs.FlatStep.{FlatStep}
 use Rattle.flat.specs.Bytes.{isStrange, outcomeByte, refusalByte}
 use Rattle.flat.specs.Flat.{streamOf, totalsOf}
 use Rattle.udx_c.specs.Coded.{headerOf, flatHeader}
-use Rattle.udx_c.specs.Shown.{storeOf, bytesOf}
+use Rattle.places.specs.Place.{lookedPart}
+use Rattle.udx_c.specs.Shown.{flatPart, storeOf, bytesOf}
 use Rattle.udx_c.proofs.udx_write as write
 use Rattle.udx_c.proofs.udx_deliver as deliver
 use Rattle.udx_c.proofs.udx_drive as drive
@@ -154,6 +155,7 @@ module _ {M : Type 1} (𝓤 : URA M) (H : Heap 𝓤) (A : Atoms 𝓤) (mem : Mem
       × RefusedInC r ((r .stream ≡ s) × (r .totals ≡ t) × (now queue′ ≡ now queue) × (now headers′ ≡ now headers)))
 
   -- the part that is named, by its bytes
+  -- look: "shown as a part of the outgoing store or of the header store": which, where it starts, and how long it is
   abbrev pub Look : Type 2
   Look =
       (κs : Lfts 6) (x : Args look.signature κs) (r : Res look.signature κs) (y : AtExit look.ended κs)
@@ -163,7 +165,8 @@ module _ {M : Type 1} (𝓤 : URA M) (H : Heap 𝓤) (A : Atoms 𝓤) (mem : Mem
       Promises 𝓤 (c .requires tt) (c .ensures tt r y)
       ((isStrange (s .ending) ≡ false
       → LookShows (bytesOf r (now outgoing) (now headers)) (streamOf s) (totalsOf t) l
-      × (r .start + r .length ≤ length (storeOf r (now outgoing) (now headers))))
+      × (r .start + r .length ≤ length (storeOf r (now outgoing) (now headers)))
+      × (r ≡ flatPart (lookedPart (streamOf s) (totalsOf t) l)))
       × (isStrange (s .ending) ≡ true → r .length ≡ 0))
 
   -- outcome 0 is ok; refusal 1 of an open tests "the lengths only"
@@ -174,10 +177,7 @@ module _ {M : Type 1} (𝓤 : URA M) (H : Heap 𝓤) (A : Atoms 𝓤) (mem : Mem
       let c = opening.clauses 𝓤 H A mem run κs x in
       Promises 𝓤 (c .requires tt) (c .ensures tt r y)
       ((r .outcome ≡ 0
-      → (numbersInC (r .stream) (r .totals) ≡ freshNumbers clock)
-      × (r .stream .ids .local ≡ local)
-      × (r .stream .ids .remote ≡ remote)
-      × (r .stream .ids .segments ≡ segments))
+      → numbersInC (r .stream) (r .totals) ≡ freshNumbers local remote segments clock)
       × (storesTest (now outgoing) (now incoming) (now headers) ≡ true → r .refusal ≡ 1))
 
   -- header coding: refusals 2 and 7 by number, else 0

@@ -36,10 +36,7 @@ module _ {M : Type 1} (𝓤 : URA M) (H : Heap 𝓤) (A : Atoms 𝓤) (mem : Mem
       let c = fresh.clauses 𝓤 H A mem run κs x in
       Promises 𝓤 (c .requires tt) (c .ensures tt r y)
       (storesTest (now outgoing) (now incoming) (now headers) ≡ false
-      → (numbersOn (r .stream) (r .totals) ≡ freshNumbers 0)
-      × (r .stream .ids .local ≡ local)
-      × (r .stream .ids .remote ≡ remote)
-      × (r .stream .ids .segments ≡ 10)
+      → (numbersOn (r .stream) (r .totals) ≡ freshNumbers local remote 10 0)
       × (r .sent ≡ replicate 64 0)
       × (r .held ≡ replicate 32 0)
       × (r .queue ≡ replicate 128 0)

@@ -26,10 +26,10 @@ use Rattle.promise_ways.specs.Mixed.{Mixed, asEvents, OpenedEither, MixedTurn, 
 -- the sentences
 
 -- One direction. `accepted` are the bytes that the sender's writes accepted, `packets` "the pieces that went, numbered from 0 in order over
--- all writes"; `read` are the bytes that the receiver's reads put, `ack` is the one in its stream, `brought` the numbers that its deliveries,
+-- all writes", `seq` the number of the next one; `read` are the bytes that the receiver's reads put, `ack` is the one in its stream, `brought` the numbers that its deliveries,
 -- "refused ones left out, brought as DATA". `Unread` is said of the bytes that reads alone would still put; `Stored` and `Held` of a number
 -- and a payload under which the sender stores a packet, or the receiver holds one.
-pub record Carries (accepted read : Bytes) (packets : List Bytes) (ack : ℕ) (brought : List ℕ) (Unread : Bytes → Type 0) (Stored Held : ℕ → Bytes → Type 0)
+pub record Carries (accepted read : Bytes) (packets : List Bytes) (seq ack : ℕ) (brought : List ℕ) (Unread : Bytes → Type 0) (Stored Held : ℕ → Bytes → Type 0)
     : Type 0 where
   -- the bytes read are the first bytes accepted: none is missing, shifted or invented
   pub first : (rest : Bytes) × (accepted ≡ read ++ rest)
@@ -40,6 +40,8 @@ pub record Carries (accepted read : Bytes) (packets : List Bytes) (ack : ℕ) (b
   pub counts : (unread : Bytes) → Unread unread → length accepted ≡ length read + (length unread + length (joined (drop ack packets)))
   -- every byte accepted went in a packet, and no packet has another byte
   pub all-went : accepted ≡ joined packets
+  -- "numbered from 0 in order over all writes": each number below seq is a packet's, and no other
+  pub numbered : length packets ≡ seq
   -- none of the packets at or past the receiver's ack is lost: the sender stores it still
   pub none-lost : (n : ℕ) → ack ≤ n → n < length packets → Stored n (getD packets n [])
   -- "a packet stored or held is there under its number, with just that piece's bytes as payload"
@@ -69,7 +71,7 @@ HeldIn e n payload = (h : Held) × (get (e .receiver .incoming) n ≡ some h) ×
 
 abbrev pub CarriesInModel : (sender receiver : model.Side) → Type 0
 CarriesInModel s r =
-    Carries (s .past .accepted) (r .past .reads) (s .past .pieces) (r .end .receiver .ack) (r .past .brought) (λ unread. unread ≡ unreadInOrder (r .end))
+    Carries (s .past .accepted) (r .past .reads) (s .past .pieces) (s .end .sender .seq) (r .end .receiver .ack) (r .past .brought) (λ unread. unread ≡ unreadInOrder (r .end))
     (StoredIn (s .end)) (HeldIn (r .end))
 
 -- Either end may be the sender, here and below.
@@ -93,7 +95,7 @@ UnreadOn x unread = (vs : List Event) × (last : Event) × ReadsAlone vs last x 
 -- "The receiver's ack is the one in its stream"
 abbrev pub CarriesOnRecords : (Records → Bytes → Type 0) → (sender receiver : records.Side) → Type 0
 CarriesOnRecords Unread s r =
-    Carries (s .past .accepted) (r .past .reads) (s .past .pieces) (r .records .stream .receiver .ack) (r .past .brought) (Unread (r .records))
+    Carries (s .past .accepted) (r .past .reads) (s .past .pieces) (s .records .stream .sender .seq) (r .records .stream .receiver .ack) (r .past .brought) (Unread (r .records))
     (StoredIn (seenOf (s .records))) (HeldIn (seenOf (r .records)))
 
 abbrev pub LiesOnRecords : (sender receiver : records.Side) → Type 0
@@ -123,7 +125,7 @@ UnreadInC x unread = (vs : List PlainEvent) × (last : PlainEvent) × PlainReads
 
 abbrev pub BothInC : (sender receiver : PlainSide) → Type 0
 BothInC s r =
-    Carries (s .past .accepted) (r .past .reads) (s .past .pieces) (r .plain .stream .receiver .ack) (r .past .brought) (UnreadInC (r .plain))
+    Carries (s .past .accepted) (r .past .reads) (s .past .pieces) (s .plain .stream .sender .seq) (r .plain .stream .receiver .ack) (r .past .brought) (UnreadInC (r .plain))
     (StoredIn (seenOf (recordsOf (s .plain)))) (HeldIn (seenOf (recordsOf (r .plain))))
     × Lies (s .plain .lent .outgoing) (r .plain .lent .incoming) (s .past .pieces) (r .plain .stream .receiver .ack)
     (StoredIn (seenOf (recordsOf (s .plain)))) (HeldIn (seenOf (recordsOf (r .plain))))
