@@ -42,32 +42,32 @@ keptAfter a kept = lastKept (kept ++ map fitted (model-out.datagramsOf (a .segme
 
 -- a command on the end that it is for; `theirs` are the datagrams kept of the other end
 unfoldable pub acted : Command → Side → List Bytes → Acted
-acted (command.Write number length fill) s theirs = lined name.Write number (model.write (replicate length fill) (s .end)) (s .kept)
+acted (command.Write number size fill) s theirs = lined name.Write number (model.write (replicate size fill) (s .end)) (s .kept)
 acted (command.Drive number clock) s theirs = lined name.Drive number (model-out.drive (clock .0) (s .end)) (s .kept)
 acted (command.Take number) s theirs =
     lined name.Take number (model-out.take 14_000 (s .end)) (keptAfter (model-out.take 14_000 (s .end)) (s .kept))
 acted (command.Hand number which clock) s theirs =
     lined name.Hand number (model-in.deliver (getD theirs which []) (clock .0) (s .end)) (s .kept)
-acted (command.Read number length) s theirs = linedRead number (model-in.read length (s .end)) (s .kept)
+acted (command.Read number size) s theirs = linedRead number (model-in.read size (s .end)) (s .kept)
 acted (command.Close number) s theirs = lined name.Close number (model.close (s .end)) (s .kept)
 acted command.Bad s theirs = record { side = s; line = [] }
 
 -- "or a datagram not kept": a hand needs one of the other end's
 abbrev pub hasDatagram : Command → List Bytes → Bool
-hasDatagram (command.Write number length fill) theirs = true
+hasDatagram (command.Write number size fill) theirs = true
 hasDatagram (command.Drive number clock) theirs = true
 hasDatagram (command.Take number) theirs = true
 hasDatagram (command.Hand number which clock) theirs = ltb which (length theirs)
-hasDatagram (command.Read number length) theirs = true
+hasDatagram (command.Read number size) theirs = true
 hasDatagram (command.Close number) theirs = true
 hasDatagram command.Bad theirs = true
 
 -- a script has no read of more bytes: such a one ends the run when it is parsed
 abbrev pub shortRead : Command → Bool
-shortRead (command.Write number length fill) = true
+shortRead (command.Write number size fill) = true
 shortRead (command.Drive number clock) = true
 shortRead (command.Take number) = true
 shortRead (command.Hand number which clock) = true
-shortRead (command.Read number length) = leb length 4_096
+shortRead (command.Read number size) = leb size 4_096
 shortRead (command.Close number) = true
 shortRead command.Bad = true

@@ -226,10 +226,10 @@ pub fn act(
     match command {
         Command::Write {
             end: number,
-            length,
+            length: size,
             fill: byte,
         } => {
-            let c = write(e, length, byte, outgoing, incoming, headers, scratch);
+            let c = write(e, size, byte, outgoing, incoming, headers, scratch);
             put_line(c, Name::Write, number, line)
         }
         Command::Drive { end: number, clock } => {
@@ -250,17 +250,8 @@ pub fn act(
         }
         Command::Read {
             end: number,
-            length,
-        } => read(
-            e,
-            number,
-            length,
-            outgoing,
-            incoming,
-            headers,
-            scratch,
-            line,
-        ),
+            length: size,
+        } => read(e, number, size, outgoing, incoming, headers, scratch, line),
         Command::Close { end: number } => {
             let c = ends::close(e, outgoing, incoming, headers);
             put_line(c, Name::Close, number, line)

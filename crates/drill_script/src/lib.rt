@@ -174,11 +174,14 @@ fn in_range(drill: Drill) -> bool {
             ceiling: _,
             clock: _,
         } => end <= 1,
-        Drill::Room { end, length } => both(end <= 1, length <= 14_000),
+        Drill::Room { end, length: size } => both(end <= 1, size <= 14_000),
         Drill::Look { end } => end <= 1,
         Drill::Numbers { end } => end <= 1,
-        Drill::Encode { length, header: _ } => length <= 64,
-        Drill::Decode { length } => length <= 64,
+        Drill::Encode {
+            length: size,
+            header: _,
+        } => size <= 64,
+        Drill::Decode { length: size } => size <= 64,
         Drill::Spoil {
             end,
             which,

@@ -185,7 +185,7 @@ fn next_sum(sum: u64, b: u8) -> u64 {
 fn room(
     e: End,
     number: u8,
-    length: u16,
+    size: u16,
     outgoing: &[u8],
     incoming: &[u8],
     headers: &[u8],
@@ -195,15 +195,7 @@ fn room(
 ) -> Acted
     ensures { λ r. ⌜ r .len ≤ 8_400 ⌝ }
 {
-    let c = play::take_and_keep(
-        e,
-        length as usize,
-        outgoing,
-        incoming,
-        headers,
-        kept,
-        scratch,
-    );
+    let c = play::take_and_keep(e, size as usize, outgoing, incoming, headers, kept, scratch);
     let n = least(c.count, scratch.len());
     let total = sum(&scratch[0..n]);
     let outcome = c.outcome;
@@ -279,8 +271,12 @@ pub fn act(
     ensures { λ r. ⌜ r .len ≤ 8_400 ⌝ }
 {
     match drill {
-        Drill::Raw { end, clock, length } => {
-            let datagram = part(s, 12, length);
+        Drill::Raw {
+            end,
+            clock,
+            length: size,
+        } => {
+            let datagram = part(s, 12, size);
             raw(e, end, clock, datagram, outgoing, incoming, headers, line)
         }
         Drill::Base {
@@ -307,10 +303,10 @@ pub fn act(
             headers,
             line,
         ),
-        Drill::Room { end, length } => room(
+        Drill::Room { end, length: size } => room(
             e,
             end,
-            length,
+            size,
             outgoing,
             incoming,
             headers,
@@ -324,12 +320,15 @@ pub fn act(
             let len = drill_lines::put_all_numbers(line, end, &all);
             Acted { end: e, len }
         }
-        Drill::Encode { length, header } => {
-            let len = encode(length, header, line);
+        Drill::Encode {
+            length: size,
+            header,
+        } => {
+            let len = encode(size, header, line);
             Acted { end: e, len }
         }
-        Drill::Decode { length } => {
-            let len = decode(part(s, 2, length as u16), line);
+        Drill::Decode { length: size } => {
+            let len = decode(part(s, 2, size as u16), line);
             Acted { end: e, len }
         }
         Drill::Spoil {

@@ -28,11 +28,11 @@ openedSides = record { zero = opened 1 2; one = opened 2 1 }
 
 -- the end that a command is for, 0 or 1; one that ends the run is for none
 abbrev pub endOf : Command → ℕ
-endOf (command.Write number length fill) = number
+endOf (command.Write number size fill) = number
 endOf (command.Drive number clock) = number
 endOf (command.Take number) = number
 endOf (command.Hand number which clock) = number
-endOf (command.Read number length) = number
+endOf (command.Read number size) = number
 endOf (command.Close number) = number
 endOf command.Bad = 2
 

@@ -119,13 +119,13 @@ pub fn u64_at(s: &[u8], place: u8) -> u64
 }
 
 // "a read length above 4,096" ends the run
-fn read_command(end: u8, length: u16) -> Command
-    ensures { λ r. ⌜ r ≡ readOf end length ⌝ }
+fn read_command(end: u8, size: u16) -> Command
+    ensures { λ r. ⌜ r ≡ readOf end size ⌝ }
 {
-    if 4_096 < length {
+    if 4_096 < size {
         return Command::Bad;
     }
-    Command::Read { end, length }
+    Command::Read { end, length: size }
 }
 
 // The command with this byte, for this end, at the front of s, which has all of its operands.
