@@ -1,24 +1,23 @@
 -- A write keeps the invariant of both directions. The pieces that went are what the accepted bytes are when cut at 1,380 bytes: the
 -- loop and the cut are compared piece by piece. Assumes nothing.
-use Prim.Native.Nat.{ℕ, zero, suc, _+_, _-_, _≤_, _<_}
+use Prim.Native.Nat.{ℕ, zero, suc, _+_, _≤_}
 use native.Mathlib.Decide.{decLe}
 use native.Mathlib.Omega.{arith}
 use mathlib.Core.Path.{_≡_, refl, sym, ap, ap₂, _∙_, subst₂}
 use mathlib.Core.List.{List, [], _∷_, _++_, append-assoc, append-nil}
-use mathlib.Core.Bool.{Bool, true, false, not, _&&_, true≢false}
-use lib.Dec.{ltb, leb}
-use borrow.Author.Tests.{ltb-true, not-true}
+use mathlib.Core.Bool.{true, false, not, _&&_, true≢false}
+use borrow.Author.Tests.{not-true}
 use lib.ListN.{length, take, drop, length-take, take-append-drop, drop-of-length-le}
 use lib.Seq.{take-append-add, take-at, drop-at, take-all, take-nil}
 use Rattle.model.specs.Lists.{Bytes, cut, isEmpty}
-use Rattle.model.specs.Slots.{ceiling}
-use Rattle.model.specs.Stream.{Sender, End}
+use Rattle.model.specs.Stream.{End}
 use Rattle.model.specs.Answers.{Answer}
 use Rattle.model.specs.Sending.{piece, goes, sendDataPacket, Written, writeLoop, writeRefusal, write}
 use Rattle.model.specs.Calls.{writeCall}
 use Rattle.model_ends.specs.TwoEnds.{History, noted}
 use Rattle.model.proofs.Lists.{by-test}
 use Rattle.model.proofs.Gate.{by-gate, and-left, and-right}
+use Rattle.model_rules.proofs.InvariantSend.{goes-room}
 use Rattle.model_ends.proofs.Line.{Both}
 use Rattle.model_ends.proofs.LineSender.{one-way-piece, withPiece}
 
@@ -61,18 +60,6 @@ cut-front k bytes count e = rw (front bytes count) (go (decLe 1_380 (length byte
         (rw append-nil (drop-of-length-le (piece bytes) r)))
 
 -- a piece that goes has room
-pub goes-room : (p : Bytes) (s : Sender) → goes p s ≡ true → (s .seq < 4_294_967_295) × (s .seq - s .remoteAcked < ceiling)
-unfolding goes
-goes-room p s q =
-    let z = and-right (leb (s .inflight + length p) (s .cwnd)) (near && below) q in
-    (ltb-true (s .seq) 4_294_967_295 (and-right near below z), ltb-true (s .seq - s .remoteAcked) ceiling (and-left near below z))
-  where
-    near : Bool
-    near = ltb (s .seq - s .remoteAcked) ceiling
-
-    below : Bool
-    below = ltb (s .seq) 4_294_967_295
-
 -- the history after `count` bytes were accepted
 abbrev withCount : (k count : ℕ) → Bytes → History → History
 withCount k count bytes g =
