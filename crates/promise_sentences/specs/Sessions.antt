@@ -1,5 +1,5 @@
--- 'The session program' in 01's sentences: the ends that it runs and a turn of it, from the contracts of `fresh_end` and `run_one` word for
--- word (`FreshEnd` and `RunOne`, play/proofs/Contracts.antt). Statements only: the proofs are proofs/Sessions.antt. Assumes nothing.
+-- 'The session program' in 01's sentences: the ends that it runs and a turn of it, from the contracts of `fresh_end`, `open_ends` and
+-- `run_one` word for word (`FreshEnd`, `OpensEnds` and `RunOne`, play/proofs/Contracts.antt). Statements only: the proofs are proofs/Sessions.antt. Assumes nothing.
 use Prim.Native.Nat.{_≤_, _<_}
 use mathlib.Core.Path.{_≡_}
 use mathlib.Core.List.{[]}
@@ -23,6 +23,7 @@ use Rattle.ends.proofs.«fresh_end» as fresh
 use Rattle.commands.specs.Acts.{Laid}
 use Rattle.play.specs.Session.{turn}
 use Rattle.play.specs.Turned.{lends, sidesOf}
+use Rattle.play.proofs.«open_ends» as open-ends
 use Rattle.play.proofs.«run_one» as run-one
 use Rattle.promise_sentences.specs.Answers.{numbersOn}
 use Rattle.promise_sentences.specs.Calls.{freshNumbers, Promises}
@@ -42,6 +43,14 @@ module _ {M : Type 1} (𝓤 : URA M) (H : Heap 𝓤) (A : Atoms 𝓤) (mem : Mem
       × (r .queue ≡ replicate 128 0)
       × ((store : Bytes) → keptOf (r .kept) store ≡ []))
 
+  -- "ends 0 (id 1) and 1 (id 2), opened at clock 0 with ceiling 10": the two that the program runs, over stores of its own
+  abbrev pub Opening : Type 2
+  Opening =
+      (κs : Lfts 6) (x : Args open-ends.signature κs) (r : Res open-ends.signature κs) (y : AtExit open-ends.ended κs)
+      → let c = open-ends.clauses 𝓤 H A mem run κs x in
+      Promises 𝓤 (c .requires tt) (c .ensures tt r y)
+      ((numbersOn (r .zero .stream) (r .zero .totals) ≡ freshNumbers 1 2 10 0) × (numbersOn (r .one .stream) (r .one .totals) ≡ freshNumbers 2 1 10 0))
+
   -- a turn goes on in the script, and puts the line that the definition has for it
   abbrev pub Turns : Type 2
   Turns =
@@ -59,4 +68,5 @@ module _ {M : Type 1} (𝓤 : URA M) (H : Heap 𝓤) (A : Atoms 𝓤) (mem : Mem
 
   pub record SessionSentences : Type 2 where
     pub ends : Ends
+    pub opening : Opening
     pub turns : Turns
