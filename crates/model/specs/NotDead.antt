@@ -70,7 +70,7 @@ pub record Drained (e : End) : Type 0 where
   pub none-queued : e .queue .entries ≡ []
   pub none-stored : (n : ℕ) → get (e .sender .outgoing) n ≡ none
 
--- the bytes of an entry; none where "its packet has left the store"
+-- the bytes of an entry; none for "an entry whose packet has left the store"
 abbrev pub bytesOf : Slots Packet → Entry → Bytes
 bytesOf outgoing (state b) = b
 bytesOf outgoing (packet n l) = on (get outgoing n) [] (λ p. p .bytes)
@@ -118,7 +118,7 @@ pub record NotDead : Type 0 where
   pub waits-for-room : (clock : ℕ) (e : End) → length (e .sender .outgoing) ≡ ceiling → (drive clock e) .outcome ≡ Ready → (n : ℕ) (p : Packet)
       → get ((drive clock e) .end .sender .outgoing) n ≡ some p → p .marks .waiting ≡ true → NoRoom ((drive clock e) .end)
   -- not "inventing inflight or totals": a write counts exactly what it sent, a take and a read count nothing. (That inflight and its totals
-  -- are what is stored is a rule of the records, which calls from a fresh stream keep: `NeverBroken`, Calls.antt.)
+  -- are what is stored is a rule of the records, which calls from a fresh stream keep: `NeverBroken`, model_rules/specs/NeverBroken.antt.)
   pub writes-counted : (bytes : Bytes) (e : End) → Counted ((write bytes e) .count) e ((write bytes e) .end)
   pub takes-counted : (room : ℕ) (e : End) → ((take room e) .end .totals ≡ e .totals) × ((take room e) .end .sender .inflight ≡ e .sender .inflight)
   pub reads-counted : (room : ℕ) (e : End) → ((read room e) .end .totals ≡ e .totals) × ((read room e) .end .sender ≡ e .sender)

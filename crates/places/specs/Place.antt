@@ -31,8 +31,8 @@ abbrev pub headerPart : ℕ → Part
 headerPart place = record { header = true; start = place * 20; length = 20 }
 
 -- 01, 'Records': "32 slots of 1,400 bytes"
-abbrev pub packetPart : (n length : ℕ) → Part
-packetPart n length = record { header = false; start = n % 32 * 1_400; length = length }
+abbrev pub packetPart : (n size : ℕ) → Part
+packetPart n size = record { header = false; start = n % 32 * 1_400; length = size }
 
 -- "first entry left to take whose packet is there", as the model's `firstThere`; `place` is the first state packet's in the header store
 abbrev pub firstPart : Slots Packet → (place : ℕ) → List Entry → Part

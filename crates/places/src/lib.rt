@@ -46,13 +46,13 @@ fn header_part(place: u32) -> Part
 }
 
 // The first bytes of packet n's slot.
-fn packet_part(n: u32, length: u32) -> Part
-    ensures { λ r. ⌜ r ≡ packetPart n length ⌝ }
+fn packet_part(n: u32, size: u32) -> Part
+    ensures { λ r. ⌜ r ≡ packetPart n size ⌝ }
 {
     Part {
         header: false,
         start: (n % 32) as usize * OUTGOING_SLOT,
-        length: length as usize,
+        length: size as usize,
     }
 }
 

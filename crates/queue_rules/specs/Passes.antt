@@ -19,7 +19,7 @@ known acked seq n = leb acked n && ltb n seq
 
 -- "lengths are 21 to 1,400 .. queued"
 abbrev pub sized : ℕ → Bool
-sized length = leb 21 length && leb length 1_400
+sized size = leb 21 size && leb size 1_400
 
 -- the entry of a packet: its length, and "a queued length is its packet's while that is stored"
 abbrev pub queuedOk : Bool → List ℕ → Entry → Bool
