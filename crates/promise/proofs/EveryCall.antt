@@ -167,6 +167,10 @@ stores-fit : (differ formed : Bool) → (not differ && formed) ≡ true → diff
 stores-fit true formed e = absurd (true≢false (sym e))
 stores-fit false formed e = refl
 
+pub stores : (x : Records) → laidOut (x .stream) (x .lent) ≡ true → storesTest (x .lent .outgoing) (x .lent .incoming) (x .lent .headers) ≡ false
+unfolding laidOut
+stores x out = stores-fit (storesTest (x .lent .outgoing) (x .lent .incoming) (x .lent .headers)) _ out
+
 -- a step and what is lent after it
 record Answered (x : Records) (call : End → Answer) : Type 0 where
   step : Step
@@ -175,10 +179,6 @@ record Answered (x : Records) (call : End → Answer) : Type 0 where
   sized : Sized after
 
 module _ (x : Records) (out : laidOut (x .stream) (x .lent) ≡ true) (keeps : Invariant (seenOf x)) (sized : Sized (x .lent)) where
-  stores : storesTest (x .lent .outgoing) (x .lent .incoming) (x .lent .headers) ≡ false
-  unfolding laidOut
-  stores = stores-fit (storesTest (x .lent .outgoing) (x .lent .incoming) (x .lent .headers)) _ out
-
   answer-call : (call : End → Answer) → Quiet (seenOf x) (call (seenOf x)) → Segment (call (seenOf x)) → Invariant ((call (seenOf x)) .end) → Answered x call
   answer-call call quiet segment next = go (refusal-of (a .outcome))
     where
@@ -186,10 +186,10 @@ module _ (x : Records) (out : laidOut (x .stream) (x .lent) ≡ true) (keeps : I
       a = call (seenOf x)
 
       y : Records
-      y = laid (a .end) next (x .lent) stores
+      y = laid (a .end) next (x .lent) (stores x out)
 
       new : LaidAs (a .end) (x .lent) y
-      new = laid-as (a .end) next (x .lent) stores
+      new = laid-as (a .end) next (x .lent) (stores x out)
 
       r : Step
       r = record { stream = y .stream; totals = y .totals; outcome = a .outcome; count = a .count; segment = segment .0 }
@@ -264,9 +264,9 @@ module _ (x : Records) (h : Stand x) where
       let d : Did x v = record { answers = a .answers; bytes = refl } in
       record { event = v; request = refl; did = d; next = stand-next x v h d (a .sized) }
   make (toRead buf) =
-      let a = give x (h .laid) (stores x (h .laid) (h .keeps) (h .sized)) (h .keeps) (h .sized) buf in
+      let a = give x (h .laid) (stores x (h .laid)) (h .keeps) buf (h .sized) in
       let v : Event = record { request = toRead buf; step = a .step; lent = a .after; buf = a .buf′ } in
-      record { event = v; request = refl; did = a .gives; next = stand-next x v h (a .gives) (a .sized) }
+      record { event = v; request = refl; did = a .gives; next = stand-next x v h (a .gives) (a .sized (h .sized)) }
   make toClose =
       let a = by-answer model.close (close-quiet e) (close-segment e) (call-keeps closeCall e (h .keeps)) in
       let v : Event = record { request = toClose; step = a .step; lent = a .after; buf = [] } in

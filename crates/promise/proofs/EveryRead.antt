@@ -1,6 +1,6 @@
 -- A read can be made on records that are an end of the model. One that finds nothing changes nothing; one that puts the front of a packet
 -- changes that packet's word alone, since it may be refused and then keeps every number; one that finishes a packet is ready, and the end
--- after it is laid out anew. Assumes nothing.
+-- after it is laid out anew. Only the front of a packet asks how many words there are. Assumes nothing.
 use Prim.Native.Nat.{ℕ, suc, _+_, _-_, _%_, _<_}
 use native.Mathlib.Omega.{arith}
 use mathlib.Core.Path.{_≡_, refl, sym, ap, _∙_, subst}
@@ -56,7 +56,7 @@ loop-front : (k room : ℕ) (r : model.Receiver) (h : model.Held) → get (r .in
 unfolding readLoop
 loop-front k room r h e l = rw (e, l) refl
 
-loop-whole : (k room : ℕ) (r : model.Receiver) (h : model.Held) → get (r .incoming) (r .readCursor) ≡ some h → ltb room (length (rest h)) ≡ false
+pub loop-whole : (k room : ℕ) (r : model.Receiver) (h : model.Held) → get (r .incoming) (r .readCursor) ≡ some h → ltb room (length (rest h)) ≡ false
     → (readLoop (suc k) room r) .ready ≡ true
 unfolding readLoop
 loop-whole k room r h e l = rw (e, l) refl
@@ -82,11 +82,11 @@ pub record Given (x : Records) (buf : Bytes) : Type 0 where
   pub after : Lent
   pub buf′ : Bytes
   pub gives : Gives (x .stream) (x .totals) (x .lent) buf step after buf′
-  pub sized : Sized after
+  pub sized : Sized (x .lent) → Sized after
 
 module _ (x : Records) (out : laidOut (x .stream) (x .lent) ≡ true) (stores : storesTest (x .lent .outgoing) (x .lent .incoming) (x .lent .headers) ≡ false)
-    (keeps : Invariant (seenOf x)) (lengths : Sized (x .lent)) (buf : Bytes) where
-  acts : read (length buf) (seenOf x) ≡ readAnswer (readNext (length buf) (seenOf x .receiver)) (seenOf x)
+    (keeps : Invariant (seenOf x)) (buf : Bytes) where
+  pub acts : read (length buf) (seenOf x) ≡ readAnswer (readNext (length buf) (seenOf x .receiver)) (seenOf x)
   unfolding read readRefusal
   acts = gate-open (readRefusal (seenOf x)) (seenOf x) _ (rw (invariant-rules (seenOf x) keeps) refl)
 
@@ -99,7 +99,7 @@ module _ (x : Records) (out : laidOut (x .stream) (x .lent) ≡ true) (stores : 
   put-all = put buf 0 ((onRecords (read (length buf)) (x .stream) (x .totals) (x .lent)) .bytes)
 
   -- nothing to read
-  finds-none : get (seenOf x .receiver .incoming) (seenOf x .receiver .readCursor) ≡ none → Given x buf
+  pub finds-none : get (seenOf x .receiver .incoming) (seenOf x .receiver .readCursor) ≡ none → Given x buf
   unfolding readNext
   finds-none e =
       let r : Step = record { stream = x .stream; totals = x .totals; outcome = readOutcome false (seenOf x); count = 0; segment = 0 } in
@@ -115,11 +115,11 @@ module _ (x : Records) (out : laidOut (x .stream) (x .lent) ≡ true) (stores : 
               same-numbers = λ why z. (refl, refl);
               bytes = refl;
             };
-        sized = lengths;
+        sized = λ z. z;
       }
 
   -- a packet is finished
-  finishes : (readNext (length buf) (seenOf x .receiver)) .ready ≡ true → Given x buf
+  pub finishes : (readNext (length buf) (seenOf x .receiver)) .ready ≡ true → Given x buf
   finishes e =
       let a = read (length buf) (seenOf x) in
       let next : Invariant (a .end) = call-keeps (readCall (length buf)) (seenOf x) keeps in
@@ -142,11 +142,12 @@ module _ (x : Records) (out : laidOut (x .stream) (x .lent) ≡ true) (stores : 
               same-numbers = λ why z. absurd (ready-acts why z);
               bytes = refl;
             };
-        sized = new .sized;
+        sized = λ z. new .sized;
       }
 
   -- the front of a packet
-  module _ (h : model.Held) (there : get (seenOf x .receiver .incoming) (seenOf x .receiver .readCursor) ≡ some h) (l : ltb (length buf) (length (rest h)) ≡ true) where
+  module _ (lengths : Sized (x .lent)) (h : model.Held) (there : get (seenOf x .receiver .incoming) (seenOf x .receiver .readCursor) ≡ some h)
+      (l : ltb (length buf) (length (rest h)) ≡ true) where
     abbrev cursor : ℕ
     cursor = x .stream .receiver .«read_cursor»
 
@@ -232,17 +233,17 @@ module _ (x : Records) (out : laidOut (x .stream) (x .lent) ≡ true) (stores : 
                 same-numbers = λ why z. (refl, refl);
                 bytes = refl;
               };
-          sized = record { sent = lengths .sent; held = held-sized; queue = lengths .queue };
+          sized = λ z. record { sent = z .sent; held = held-sized; queue = z .queue };
         }
 
-  pub give : Given x buf
+  pub give : Sized (x .lent) → Given x buf
   unfolding readNext
-  give = go (get (seenOf x .receiver .incoming) (seenOf x .receiver .readCursor)) refl
+  give lengths = go (get (seenOf x .receiver .incoming) (seenOf x .receiver .readCursor)) refl
     where
       go : (o : Option model.Held) → get (seenOf x .receiver .incoming) (seenOf x .receiver .readCursor) ≡ o → Given x buf
       go none e = finds-none e
       go (some h) e = by (ltb (length buf) (length (rest h))) refl
         where
           by : (b : Bool) → ltb (length buf) (length (rest h)) ≡ b → Given x buf
-          by true l = puts-front h e l
+          by true l = puts-front lengths h e l
           by false l = finishes (loop-whole 31 (length buf) (seenOf x .receiver) h e l)
