@@ -1,14 +1,15 @@
 -- The hypotheses of the theorems about lists of calls are satisfiable. Those theorems quantify over events that satisfy the contracts of
 -- the exported functions; here such events exist: every list of requests is that of some calls from an open (`EveryRun`), whatever two
--- ends of the model do over a line two ends on the records can do (`EveryLine`), and one carries bytes to the other (`Possible`).
--- Statements only: the proofs are proofs/EveryCall.antt and proofs/Possible.antt. Assumes nothing.
+-- ends of the model do over a line two ends on the records can do (`EveryLine`), one carries bytes to the other (`Possible`), and wherever
+-- two ends come to, the reads that tell what is unread exist (`EveryReadOut`). Statements only: the proofs are proofs/EveryCall.antt,
+-- proofs/Possible.antt and proofs/ReadOut.antt. Assumes nothing.
 use Prim.Native.Nat.{ℕ, _≤_}
 use mathlib.Core.Path.{_≡_}
-use mathlib.Core.List.{List, [], _∷_}
+use mathlib.Core.List.{List, [], _∷_, _++_}
 use mathlib.Core.Option.{none}
 use mathlib.Core.Bool.{false}
-use lib.ListN.{length}
-use Rattle.model.specs.Lists.{Bytes}
+use lib.ListN.{length, drop}
+use Rattle.model.specs.Lists.{Bytes, joined}
 use Rattle.model.specs.Sending.{openRefusal}
 use Rattle.model_ends.specs.TwoEnds as model
 use Rattle.model_ends.specs.TwoEnds.{Id}
@@ -16,7 +17,7 @@ use Rattle.records.specs.declared.opening.Opened.{Opened}
 use Rattle.records.specs.Seen.{Lent}
 use Rattle.records.specs.Open.{storesTest}
 use Rattle.promise.specs.Runs.{Records, Request, toWrite, toDeliver, toDrive, toTake, toRead, callOf, Event, left, Did, OpenedBy, handedOut}
-use Rattle.promise.specs.TwoEndsOnRecords.{Ends, Turn, onA, onB, lastOf, OverALine, bothOpened}
+use Rattle.promise.specs.TwoEndsOnRecords.{Side, Ends, Turn, onA, onB, lastOf, OverALine, ackOf, ReadsAlone, putByReads, bothOpened}
 
 -- what is lent to the calls of one end
 
@@ -42,7 +43,7 @@ Makes [] (v ∷ vs) x = ⊥
 Makes (q ∷ qs) [] x = ⊥
 Makes (q ∷ qs) (v ∷ vs) x = (v .request ≡ q) × Did x v × Sized (v .lent) × Makes qs vs (left v)
 
--- Every list of requests, with any bytes to deliver, can be made from an open that is not refused.
+-- From an open that is not refused, every list of requests, with any bytes to deliver, is that of some calls.
 abbrev pub EveryRun : Type 0
 EveryRun =
     (local remote segments clock : ℕ) (l : Lent)
@@ -64,7 +65,8 @@ commandsFor [] = []
 commandsFor (ofA q ∷ qs) = model.onA (callOf q) ∷ commandsFor qs
 commandsFor (ofB q ∷ qs) = model.onB (callOf q) ∷ commandsFor qs
 
--- Every list of calls over a line that the model's `TwoEnds` speaks of can be made on the records, so `TwoEndsOnRecords` speaks of it too.
+-- For every list of calls over a line that the model's `TwoEnds` speaks of, there are calls on the records with the same requests, so
+-- `TwoEndsOnRecords` speaks of it too.
 abbrev pub EveryLine : Type 0
 EveryLine =
     (i j segmentsA segmentsB clockA clockB : ℕ) (lentA lentB : Lent)
@@ -90,7 +92,7 @@ pub record Traffic (clockA clockB : ℕ) (bytes batch room : Bytes) (w : Ends) :
   pub taken : lastOf turns w .a .past .taken ≡ datagram ∷ []
   pub reads : lastOf turns w .b .past .reads ≡ bytes
 
--- Such traffic can be had, of any bytes of one piece, with any buffers that a take and a read accept.
+-- Such traffic exists, for any bytes of one piece, any take buffer of 14,000 bytes or more and a read buffer of 1,380.
 abbrev pub Possible : Type 0
 Possible =
     (i j segmentsA segmentsB clockA clockB : ℕ) (lentA lentB : Lent)
@@ -108,3 +110,26 @@ Possible =
     × OpenedBy i j segmentsA clockA lentA a
     × OpenedBy j i segmentsB clockB lentB b
     × Traffic clockA clockB bytes batch room (bothOpened a b lentA lentB)
+
+-- what is unread
+
+-- "reads alone, 1,380 at a time, .. up to the first that puts none" at the receiver r; what they put stands between the bytes read and
+-- the packets at or past the receiver's ack in what the sender s accepted
+pub record ReadOut (s r : Side) : Type 0 where
+  pub reads : List Event
+  pub last : Event
+  pub alone : ReadsAlone reads last (r .records)
+  pub accepted : s .past .accepted ≡ r .past .reads ++ (putByReads reads ++ joined (drop (ackOf r) (s .past .pieces)))
+
+-- Such reads exist at either end after every list of calls over a line, so what `Carried` says of all such reads is not empty.
+abbrev pub EveryReadOut : Type 0
+EveryReadOut =
+    (i j segmentsA segmentsB clockA clockB : ℕ)
+    → Id i
+    → Id j
+    → (lentA lentB : Lent) (a b : Opened)
+    → OpenedBy i j segmentsA clockA lentA a
+    → OpenedBy j i segmentsB clockB lentB b
+    → (turns : List Turn)
+    → OverALine turns (bothOpened a b lentA lentB)
+    → let w = lastOf turns (bothOpened a b lentA lentB) in ReadOut (w .a) (w .b) × ReadOut (w .b) (w .a)
