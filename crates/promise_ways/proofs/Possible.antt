@@ -1,11 +1,12 @@
 -- Calls on the records are calls from C (`did-plain`): numbers without a strange byte stand for records, and the step of a call on these,
--- as numbers, satisfies the contract of the C function and stands for the step again. So what can be made on the records can be made from
--- C. Assumes nothing.
+-- as numbers, satisfies the contract of the C function and stands for the step again. So calls that exist on the records exist from C, and
+-- reads alone among them (`every-read-out-from-c`). Assumes nothing.
 use Prim.Native.Nat.{ℕ}
 use mathlib.Core.Path.{_≡_, refl, sym, ap, ap₂, _∙_, subst}
 use mathlib.Core.Bool.{true, false, true≢false}
-use mathlib.Core.List.{List, [], _∷_}
-use Rattle.model.specs.Lists.{Bytes}
+use mathlib.Core.List.{List, [], _∷_, _++_}
+use lib.ListN.{drop}
+use Rattle.model.specs.Lists.{Bytes, joined}
 use Rattle.model_ends.specs.TwoEnds.{noHistory}
 use Rattle.records.specs.declared.Stream.{Stream}
 use Rattle.records.specs.declared.Totals.{Totals}
@@ -16,14 +17,18 @@ use Rattle.promise.specs.Runs.{Records, Request, toWrite, toDeliver, toDrive, t
 use Rattle.promise.specs.TwoEndsOnRecords as records
 use Rattle.promise.specs.Possible.{Makes, Asked, ofA, ofB, askedBy, Traffic}
 use Rattle.promise.proofs.EveryCall.{every-run}
+use Rattle.promise.proofs.Line.{Laid, BothLaid, call-laid}
+use Rattle.promise.proofs.Runs.{open-stands}
 use Rattle.promise.proofs.Possible.{every-line, possible}
+use Rattle.promise.proofs.ReadOut.{Reads, reads-at, stands-laid}
+use Rattle.flat.specs.declared.structs.FlatStep.{FlatStep}
 use Rattle.flat.specs.Bytes.{isStrange}
 use Rattle.flat.specs.Flat.{streamOf, totalsOf, flatStep, flatOpened}
 use Rattle.udx_c.specs.Crosses.{Crosses}
-use Rattle.promise_ways.specs.Calls.{Plain, PlainEvent, PlainDidWith, PlainDid, plainLeft, plainOpened, stepOf, recordsOf, eventOf, OpenedInC}
-use Rattle.promise_ways.specs.FromC.{PlainSide, sideOf, PlainEnds, PlainTurn, onA, onB, plainTurned, plainLastOf, PlainOverALine, bothOpenedInC}
-use Rattle.promise_ways.specs.Possible.{MakesInC, EveryRunFromC, askedInC, EveryLineFromC, TrafficInC, PossibleFromC}
-use Rattle.promise_ways.proofs.FromC.{step-back, opened-back, step-known, opened-known, endsOf, Known}
+use Rattle.promise_ways.specs.Calls.{Plain, PlainEvent, PlainDidWith, PlainDid, plainLeft, plainOpened, stepOf, openedOf, recordsOf, eventOf, OpenedInC}
+use Rattle.promise_ways.specs.FromC.{PlainSide, sideOf, PlainEnds, PlainTurn, onA, onB, plainTurned, plainLastOf, PlainOverALine, openedSide, bothOpenedInC, PlainReadsAlone, CarriedInC}
+use Rattle.promise_ways.specs.Possible.{MakesInC, EveryRunFromC, askedInC, EveryLineFromC, TrafficInC, PossibleFromC, ReadOutInC, EveryReadOutFromC}
+use Rattle.promise_ways.proofs.FromC.{step-back, opened-back, step-known, opened-known, one, opened-in-c, endsOf, Known, two-ends-from-c}
 
 -- one call
 
@@ -174,3 +179,57 @@ possible-from-c i j segmentsA segmentsB clockA clockB lentA lentB idI idJ hA hB 
       opens-plain j i segmentsB clockB lentB b openB,
       traffic clockA clockB bytes batch room a b lentA lentB t,
     )
+
+-- what is unread
+
+record ReadsInC (x : Plain) : Type 0 where
+  reads : List PlainEvent
+  last : PlainEvent
+  alone : PlainReadsAlone reads last x
+
+reads-plain : (vs : List Event) (last : Event) (x : Plain) → isStrange (x .stream .ending) ≡ false → records.ReadsAlone vs last (recordsOf x) → ReadsInC x
+unfolding flatStep
+reads-plain [] last x k h = record { reads = []; last = plainOf last; alone = (h .0, did-plain x k last (h .1), h .2) }
+reads-plain (v ∷ vs) last x k h =
+    let t = reads-plain vs last (plainLeft (plainOf v)) (step-known (v .step)) (subst (records.ReadsAlone vs last) (sym (left-for v)) (h .2)) in
+    record { reads = plainOf v ∷ t .reads; last = t .last; alone = (h .0, did-plain x k v (h .1), t .alone) }
+
+-- after calls from C the numbers still stand for records that are laid out
+reached : (cs : List PlainTurn) (w : PlainEnds) → Known w → BothLaid (endsOf w) → PlainOverALine cs w → Known (plainLastOf cs w) × BothLaid (endsOf (plainLastOf cs w))
+reached [] w k laid f = (k, laid)
+reached (onA v ∷ cs) w k laid f =
+    let o = one (w .a .plain) (v .request) (v .step) (v .lent) (v .buf) (k .0) (f .0 .0) in
+    reached cs (plainTurned (onA v) w) (o .known, k .1) (call-laid (eventOf v) (sideOf (w .a)) (laid .0) (o .does), laid .1) (f .1)
+reached (onB v ∷ cs) w k laid f =
+    let o = one (w .b .plain) (v .request) (v .step) (v .lent) (v .buf) (k .1) (f .0 .0) in
+    reached cs (plainTurned (onB v) w) (k .0, o .known) (laid .0, call-laid (eventOf v) (sideOf (w .b)) (laid .1) (o .does)) (f .1)
+
+read-out : (s r : PlainSide) → CarriedInC s r → isStrange (r .plain .stream .ending) ≡ false → Laid (sideOf r) → ReadOutInC s r
+read-out s r c k laid =
+    let on = reads-at (sideOf r) laid in
+    let t = reads-plain (on .reads) (on .last) (r .plain) k (on .alone) in
+    record {
+      reads = t .reads;
+      last = t .last;
+      alone = t .alone;
+      accepted =
+          c .carried .accepted
+          ∙ ap (λ (z : Bytes). r .past .reads ++ (z ++ joined (drop (records.ackOf (sideOf r)) (s .past .pieces)))) (c .unread (t .reads) (t .last) (t .alone));
+    }
+
+module _ (local remote segments clock : ℕ) (l : Lent) (o : FlatStep) (h : OpenedInC local remote segments clock l o) where
+  open-known : isStrange (o .stream .ending) ≡ false
+  open-known = rw (h .opens .flat) (opened-known (h .opens .opened))
+
+  open-laid : Laid (sideOf (openedSide o l))
+  open-laid = stands-laid (sideOf (openedSide o l)) _ (open-stands local remote segments clock l (openedOf o) (opened-in-c local remote segments clock l o h))
+
+pub every-read-out-from-c : EveryReadOutFromC
+every-read-out-from-c i j segmentsA segmentsB clockA clockB idI idJ lentA lentB a b openA openB turns line =
+    let start = bothOpenedInC a b lentA lentB in
+    let w = plainLastOf turns start in
+    let ((knownA, knownB), (laidA, laidB)) =
+    reached turns start (open-known i j segmentsA clockA lentA a openA, open-known j i segmentsB clockB lentB b openB)
+    (open-laid i j segmentsA clockA lentA a openA, open-laid j i segmentsB clockB lentB b openB) line in
+    let (out, back) = two-ends-from-c i j segmentsA segmentsB clockA clockB idI idJ lentA lentB a b openA openB turns line in
+    (read-out (w .a) (w .b) out knownB laidB, read-out (w .b) (w .a) back knownA laidA)

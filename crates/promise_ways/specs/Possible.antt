@@ -1,20 +1,21 @@
 -- The hypotheses of the theorems from C are satisfiable: there are numbers, words and stores after each call that satisfy the contracts of
--- the C functions, for every list of requests (`EveryRunFromC`), for whatever two ends of the model do over a line (`EveryLineFromC`), and
--- for bytes that one end carries to the other (`PossibleFromC`). The same as promise/specs/Possible.antt, on plain numbers. Statements
--- only: the proofs are proofs/Possible.antt. Assumes nothing.
+-- the C functions, for every list of requests (`EveryRunFromC`), for whatever two ends of the model do over a line (`EveryLineFromC`), for
+-- bytes that one end carries to the other (`PossibleFromC`), and for the reads that tell what is unread (`EveryReadOutFromC`). The same as
+-- promise/specs/Possible.antt, on plain numbers. Statements only: the proofs are proofs/Possible.antt. Assumes nothing.
 use Prim.Native.Nat.{ℕ, _≤_}
 use mathlib.Core.Path.{_≡_}
-use mathlib.Core.List.{List, [], _∷_}
-use lib.ListN.{length}
-use Rattle.model.specs.Lists.{Bytes}
+use mathlib.Core.List.{List, [], _∷_, _++_}
+use lib.ListN.{length, drop}
+use Rattle.model.specs.Lists.{Bytes, joined}
 use Rattle.model_ends.specs.TwoEnds as model
 use Rattle.model_ends.specs.TwoEnds.{Id}
 use Rattle.records.specs.Seen.{Lent}
 use Rattle.promise.specs.Runs.{Request, toWrite, toDeliver, toDrive, toTake, toRead}
+use Rattle.promise.specs.TwoEndsOnRecords.{ackOf, putByReads}
 use Rattle.promise.specs.Possible.{Sized, Openable, Asked, ofA, ofB, commandsFor}
 use Rattle.flat.specs.declared.structs.FlatStep.{FlatStep}
-use Rattle.promise_ways.specs.Calls.{Plain, PlainEvent, PlainDid, plainLeft, plainOpened, OpenedInC}
-use Rattle.promise_ways.specs.FromC.{PlainEnds, PlainTurn, onA, onB, plainLastOf, PlainOverALine, bothOpenedInC}
+use Rattle.promise_ways.specs.Calls.{Plain, PlainEvent, PlainDid, plainLeft, plainOpened, eventsOf, OpenedInC}
+use Rattle.promise_ways.specs.FromC.{PlainSide, sideOf, PlainEnds, PlainTurn, onA, onB, plainLastOf, PlainOverALine, bothOpenedInC, PlainReadsAlone}
 
 -- one end
 
@@ -25,7 +26,7 @@ MakesInC [] (v ∷ vs) x = ⊥
 MakesInC (q ∷ qs) [] x = ⊥
 MakesInC (q ∷ qs) (v ∷ vs) x = (v .request ≡ q) × PlainDid x v × Sized (v .lent) × MakesInC qs vs (plainLeft v)
 
--- Every list of requests, with any bytes to deliver, can be made from a `udx_open` that answered ok.
+-- From a `udx_open` that answered ok, every list of requests, with any bytes to deliver, is that of some calls.
 abbrev pub EveryRunFromC : Type 0
 EveryRunFromC =
     (local remote segments clock : ℕ) (l : Lent)
@@ -41,7 +42,8 @@ askedInC [] = []
 askedInC (onA v ∷ cs) = ofA (v .request) ∷ askedInC cs
 askedInC (onB v ∷ cs) = ofB (v .request) ∷ askedInC cs
 
--- Every list of calls over a line that the model's `TwoEnds` speaks of can be made from C, so `TwoEndsFromC` speaks of it too.
+-- For every list of calls over a line that the model's `TwoEnds` speaks of, there are calls from C with the same requests, so
+-- `TwoEndsFromC` speaks of it too.
 abbrev pub EveryLineFromC : Type 0
 EveryLineFromC =
     (i j segmentsA segmentsB clockA clockB : ℕ) (lentA lentB : Lent)
@@ -67,7 +69,7 @@ pub record TrafficInC (clockA clockB : ℕ) (bytes batch room : Bytes) (w : Plai
   pub taken : plainLastOf turns w .a .past .taken ≡ datagram ∷ []
   pub reads : plainLastOf turns w .b .past .reads ≡ bytes
 
--- Such traffic can be had, of any bytes of one piece, with any buffers that a take and a read accept.
+-- Such traffic exists, for any bytes of one piece, any take buffer of 14,000 bytes or more and a read buffer of 1,380.
 abbrev pub PossibleFromC : Type 0
 PossibleFromC =
     (i j segmentsA segmentsB clockA clockB : ℕ) (lentA lentB : Lent)
@@ -85,3 +87,26 @@ PossibleFromC =
     × OpenedInC i j segmentsA clockA lentA a
     × OpenedInC j i segmentsB clockB lentB b
     × TrafficInC clockA clockB bytes batch room (bothOpenedInC a b lentA lentB)
+
+-- what is unread
+
+-- "reads alone, 1,380 at a time, .. up to the first that puts none", from C, at the receiver r; what they put stands between the bytes
+-- read and the packets at or past the receiver's ack in what the sender s accepted
+pub record ReadOutInC (s r : PlainSide) : Type 0 where
+  pub reads : List PlainEvent
+  pub last : PlainEvent
+  pub alone : PlainReadsAlone reads last (r .plain)
+  pub accepted : s .past .accepted ≡ r .past .reads ++ (putByReads (eventsOf reads) ++ joined (drop (ackOf (sideOf r)) (s .past .pieces)))
+
+-- Such reads exist at either end after every list of calls over a line, so what `CarriedInC` says of all such reads is not empty.
+abbrev pub EveryReadOutFromC : Type 0
+EveryReadOutFromC =
+    (i j segmentsA segmentsB clockA clockB : ℕ)
+    → Id i
+    → Id j
+    → (lentA lentB : Lent) (a b : FlatStep)
+    → OpenedInC i j segmentsA clockA lentA a
+    → OpenedInC j i segmentsB clockB lentB b
+    → (turns : List PlainTurn)
+    → PlainOverALine turns (bothOpenedInC a b lentA lentB)
+    → let w = plainLastOf turns (bothOpenedInC a b lentA lentB) in ReadOutInC (w .a) (w .b) × ReadOutInC (w .b) (w .a)
