@@ -1,5 +1,5 @@
 -- 'Seventeen refusals, in checking order': each sentence from the numbers that `RefusalsInOrder` has for the call. Of a list of tests: the
--- first that holds is answered, and an answer is one of their numbers. Assumes nothing.
+-- first that holds is answered, an answer is one of their numbers, and where none holds there is none. Assumes nothing.
 use Prim.Native.Nat.{ℕ, zero, suc, _<_}
 use native.Mathlib.Omega.{arith}
 use mathlib.Core.Path.{_≡_, refl, sym, ap, _∙_, subst}
@@ -31,7 +31,7 @@ use Rattle.model.proofs.Lists.{by-test}
 use Rattle.model.proofs.Order.{refusals-in-order}
 use Rattle.model.proofs.Slots.{no-some, some-inj}
 use Rattle.records.specs.Open.{openWhy, openedOutcome}
-use Rattle.promise_sentences.specs.Refusals.{noTest, FirstAnswers, NoOther, InOrder, openTestsOn, OpenRefusals, errorNumber, OtherBytes, RefusalSentences}
+use Rattle.promise_sentences.specs.Refusals.{noTest, FirstAnswers, NoOther, NoneHolds, InOrder, openTestsOn, OpenRefusals, errorNumber, OtherBytes, RefusalSentences}
 
 -- of a list of tests
 
@@ -54,6 +54,11 @@ first-among (t ∷ ts) why e = go (t .holds) e (first-among ts why)
     go true e rec = List·Memᴰ·head (ap numberOf (some-inj e refl))
     go false e rec = List·Memᴰ·tail (rec e)
 
+-- where none holds nothing is answered
+first-none : (ts : List Test) → NoneHolds ts → first ts ≡ none
+first-none [] h = refl
+first-none (t ∷ ts) h = rw (h 0) (first-none ts (λ k. h (suc k)))
+
 -- of a call: its tests have these numbers
 
 module _ (ts : List Test) (numbers : List ℕ) (is : map number ts ≡ numbers) where
@@ -74,8 +79,12 @@ module _ (ts : List Test) (numbers : List ℕ) (is : map number ts ≡ numbers) 
       go none f h = absurd (no-some ready h)
       go (some why) f h = among why f n h
 
+  answers-none : (e : End) (a : Answer) → NoneHolds ts → (gate (first ts) e a) .outcome ≡ a .outcome
+  unfolding gate
+  answers-none e a h = rw (first-none ts h) refl
+
   in-order : (e : End) (a : Answer) → refusedBy (a .outcome) ≡ none → InOrder ts numbers ((gate (first ts) e a) .outcome)
-  in-order e a ready = (answers-first e a, answers-no-other e a ready)
+  in-order e a ready = (answers-first e a, answers-no-other e a ready, λ h. ap refusedBy (answers-none e a h) ∙ ready)
 
 -- a call that acts is not refused
 acts : (t : Bool) (x y : Answer) → refusedBy (x .outcome) ≡ none → refusedBy (y .outcome) ≡ none → refusedBy ((cond t x y) .outcome) ≡ none
@@ -94,7 +103,7 @@ module _ (segments clock : ℕ) (outgoing incoming headers : Bytes) where
   abbrev tests : List Test
   tests = openTestsOn segments clock outgoing incoming headers
 
-  open-order : (o : Outcome) → o ≡ openedOutcome (openWhy segments clock outgoing incoming headers) → InOrder tests (1 ∷ 3 ∷ 4 ∷ []) o
+  pub open-order : (o : Outcome) → o ≡ openedOutcome (openWhy segments clock outgoing incoming headers) → InOrder tests (1 ∷ 3 ∷ 4 ∷ []) o
   open-order o e =
       let numbers = open-refusals .numbers segments clock outgoing incoming headers in
       let is : o ≡ openedOutcome (first tests) = e ∙ ap openedOutcome (open-refusals .first-of segments clock outgoing incoming headers) in (
@@ -102,6 +111,7 @@ module _ (segments clock : ℕ) (outgoing incoming headers : Bytes) where
             (let (why, f, q) = first-number tests k h earlier in
             ap refusedBy (is ∙ ap openedOutcome f) ∙ ap some (q ∙ ap (λ (z : List ℕ). getD z k 0) numbers)),
         λ n h. go (first tests) refl numbers n (sym (ap refusedBy is) ∙ h),
+        λ h. ap refusedBy (is ∙ ap openedOutcome (first-none tests h)),
       )
     where
       go : (w : Option Refusal) → first tests ≡ w → map number tests ≡ 1 ∷ 3 ∷ 4 ∷ [] → (n : ℕ) → refusedBy (openedOutcome w) ≡ some n → List·Memᴰ n (1 ∷ 3 ∷ 4 ∷ [])
@@ -132,12 +142,20 @@ read-no-other room e n h = go (first (readTests e)) refl h
     go none f h = outcome-among ((readNext room (e .receiver)) .ready) e n h
     go (some why) f h = one-among n (among (readTests e) (1 ∷ []) (refusals-in-order .reads e) why f n h)
 
+read-clear : (ready : Bool) (e : End) → e .ending .error ≡ error.None → refusedBy (readOutcome ready e) ≡ none
+read-clear true e is = refl
+read-clear false e is = ap (λ (x : UdxError). refusedBy (errorOr x Waiting)) is
+
 meets : (room : ℕ) (e : End) → rules e ≡ true → (readNext room (e .receiver)) .ready ≡ false → (x : UdxError) → e .ending .error ≡ x → (n : ℕ)
     → errorNumber x ≡ some n → refusedBy ((read room e) .outcome) ≡ some n
 meets room e ok part error.None is n h = absurd (no-some refl h)
 meets room e ok part error.ConnectionReset is n h = refusals-in-order .read-reset room e ok part is ∙ h
 meets room e ok part error.UnexpectedEof is n h = refusals-in-order .read-eof room e ok part is ∙ h
 meets room e ok part error.TimedOut is n h = refusals-in-order .read-timed-out room e ok part is ∙ h
+
+finishes : (room : ℕ) (e : End) → rules e ≡ true → (readNext room (e .receiver)) .ready ≡ true → refusedBy ((read room e) .outcome) ≡ none
+unfolding read readRefusal gate
+finishes room e ok ready = rw (ok, ready) refl
 
 -- header coding
 
@@ -169,8 +187,13 @@ refusal-sentences =
       drive-in-order = λ clock e. in-order (driveTests clock e) _ (refusals-in-order .drives clock e) e _ (acts (drained e) _ _ refl refl);
       take-in-order = λ room e. in-order (takeTests room e) _ (refusals-in-order .takes room e) e _ (acts (ltb 0 (e .queue .left)) _ _ refl refl);
       close-in-order = λ e. in-order (closeTests e) _ (refusals-in-order .closes e) e _ refl;
-      read-in-order = λ room e. (answers-first (readTests e) _ (refusals-in-order .reads e) e _, read-no-other room e);
+      read-in-order = λ room e. (
+        answers-first (readTests e) _ (refusals-in-order .reads e) e _,
+        read-no-other room e,
+        λ h is. ap refusedBy (answers-none (readTests e) _ (refusals-in-order .reads e) e _ h) ∙ read-clear ((readNext room (e .receiver)) .ready) e is,
+      );
       read-meets = λ room e ok part n h. meets room e ok part (e .ending .error) refl n h;
+      read-finishes = finishes;
       encode-refused = encode-number;
       decode-refused = decode-number;
     }

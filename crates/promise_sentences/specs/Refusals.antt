@@ -1,5 +1,6 @@
 -- 'Seventeen refusals, in checking order', in the sentences of 01: of each call, that the first of its refusals that applies is returned by
--- its number, and that it returns no other number (`InOrder`); what a read answers by the stream's error, and what header coding refuses.
+-- its number, that it returns no other number, and that it is not refused where none applies (`InOrder`); what a read answers by the
+-- stream's error, and what header coding refuses.
 -- Each follows from a field of `RefusalsInOrder` (model/specs/Order.antt); that of open on the records is stated here. Statements only: the
 -- proofs are proofs/Refusals.antt. Assumes nothing.
 use Prim.Native.Nat.{ℕ, _<_}
@@ -40,8 +41,12 @@ FirstAnswers tests numbers o =
 abbrev pub NoOther : List ℕ → Outcome → Type 0
 NoOther numbers o = (n : ℕ) → refusedBy o ≡ some n → List·Memᴰ n numbers
 
+-- where no test holds a call is not refused
+abbrev pub NoneHolds : List Test → Type 0
+NoneHolds tests = (k : ℕ) → getD tests k noTest .holds ≡ false
+
 abbrev pub InOrder : List Test → List ℕ → Outcome → Type 0
-InOrder tests numbers o = FirstAnswers tests numbers o × NoOther numbers o
+InOrder tests numbers o = FirstAnswers tests numbers o × NoOther numbers o × (NoneHolds tests → refusedBy o ≡ none)
 
 -- open on the records: refusal 1 tests "the lengths only", then 3 and 4
 abbrev pub openTestsOn : (segments clock : ℕ) (outgoing incoming headers : Bytes) → List Test
@@ -75,10 +80,14 @@ pub record RefusalSentences : Type 0 where
   pub drive-in-order : (clock : ℕ) (e : End) → InOrder (driveTests clock e) (1 ∷ 4 ∷ 5 ∷ 6 ∷ []) ((drive clock e) .outcome)
   pub take-in-order : (room : ℕ) (e : End) → InOrder (takeTests room e) (1 ∷ 2 ∷ []) ((model.take room e) .outcome)
   pub close-in-order : (e : End) → InOrder (closeTests e) (1 ∷ 5 ∷ 6 ∷ 13 ∷ []) ((close e) .outcome)
-  pub read-in-order : (room : ℕ) (e : End) → FirstAnswers (readTests e) (1 ∷ []) ((read room e) .outcome) × NoOther (1 ∷ 14 ∷ 15 ∷ 16 ∷ []) ((read room e) .outcome)
+  pub read-in-order : (room : ℕ) (e : End)
+      → FirstAnswers (readTests e) (1 ∷ []) ((read room e) .outcome)
+      × NoOther (1 ∷ 14 ∷ 15 ∷ 16 ∷ []) ((read room e) .outcome)
+      × (NoneHolds (readTests e) → e .ending .error ≡ error.None → refusedBy ((read room e) .outcome) ≡ none)
   -- "Ready only if a packet was finished, else the error, else waiting"; 14 to 16: "Write or read meets" it
   pub read-meets : (room : ℕ) (e : End) → rules e ≡ true → (readNext room (e .receiver)) .ready ≡ false → (n : ℕ)
       → errorNumber (e .ending .error) ≡ some n → refusedBy ((read room e) .outcome) ≡ some n
+  pub read-finishes : (room : ℕ) (e : End) → rules e ≡ true → (readNext room (e .receiver)) .ready ≡ true → refusedBy ((read room e) .outcome) ≡ none
   -- 2: "Encode has under 20 bytes"
   pub encode-refused : (h : Header) (before after : Bytes) (r : Outcome) → Encodes h before after r → (refusedBy r ≡ some 2) ↔ (length before < 20)
   -- 7: "A header is under 20 bytes or its first bytes aren't 255, 1."
