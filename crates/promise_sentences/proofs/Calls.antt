@@ -2,9 +2,9 @@
 -- it says. Assumes nothing.
 use Prim.Native.Nat.{ℕ, _+_, _≤_, _<_}
 use native.Mathlib.Omega.{arith}
-use mathlib.Core.Path.{_≡_, refl, sym, ap, _∙_, subst}
+use mathlib.Core.Path.{_≡_, refl, sym, ap, ap₂, _∙_, subst}
 use mathlib.Core.List.{List, [], _++_}
-use mathlib.Core.Option.{none, some}
+use mathlib.Core.Option.{Option, none, some}
 use mathlib.Core.Bool.{Bool, true, false}
 use lib.Dec.{ltb}
 use lib.ListN.{length, take, drop, getD}
@@ -37,22 +37,27 @@ use Rattle.packet.proofs.Blocks.{blocks-next, blocks-end, next-range, next-end}
 use Rattle.blocks.specs.declared.Next.{Next}
 use Rattle.blocks.specs.Reader.{placeAfter, readAt}
 use Rattle.model.specs.Lists.{Bytes}
+use Rattle.model.specs.Slots.{noSlots}
 use Rattle.model.specs.Stream.{End, fresh}
-use Rattle.model.specs.Answers.{Answer, refused}
+use Rattle.model.specs.Answers.{Answer, refused, gate}
+use Rattle.model.specs.Rules.{rules}
 use Rattle.model.specs.Sending as model
 use Rattle.model.specs.Receiving as model-in
 use Rattle.model.specs.Driving as model-out
+use Rattle.model.specs.Calls.{Call, writeCall, deliverCall, driveCall, takeCall, readCall, closeCall, answer}
 use Rattle.model.specs.Order.{refusedBy, undecodedBy}
 use Rattle.model.proofs.Lists.{by-test}
 use Rattle.model.proofs.Gate.{by-gate}
 use Rattle.model.proofs.Order.{refusals-in-order}
+use Rattle.model.proofs.Slots.{no-some}
 use Rattle.records.specs.declared.Stream.{Stream}
 use Rattle.records.specs.declared.Totals.{Totals}
 use Rattle.records.specs.declared.opening.Opened.{Opened}
 use Rattle.records.specs.Put.{put}
 use Rattle.records.specs.Seen.{Lent, seenQueue, seen}
 use Rattle.records.specs.Beside.{Beside}
-use Rattle.records.specs.Open.{Opens}
+use Rattle.records.specs.Open.{freshStream, openWhy, openedStream, openedOutcome, Opens}
+use Rattle.records.proofs.SeenFresh.{seen-fresh}
 use Rattle.answers.specs.declared.step.Step.{Step}
 use Rattle.broken_records.specs.Broken.{lent}
 use Rattle.udx.specs.Agree.{laidOut, onRecords, Answers}
@@ -62,8 +67,9 @@ use Rattle.udx.specs.Take.{Hands}
 use Rattle.promise.proofs.Contracts.{contracts}
 use Rattle.promise.proofs.Runs.{take-counts, read-counts, front, open-stands}
 use Rattle.promise_sentences.specs.Answers.{numbersOf, numbersOn}
-use Rattle.promise_sentences.specs.Calls.{Equations, WhereRefused, Puts, freshNumbers, LookShows, ReadsBlock, Promises, DemandOne}
+use Rattle.promise_sentences.specs.Calls.{Equations, WhereRefused, Puts, freshNumbers, OpenSays, LookShows, ReadsBlock, Promises, DemandOne}
 use Rattle.promise_sentences.proofs.Answers.{shows}
+use Rattle.promise_sentences.proofs.Refusals.{refusal-sentences}
 
 -- a `requires` that is nothing is met, and an `ensures` that has a fact in it entails what follows from the fact
 module _ {M : Type 1} (𝓤 : URA M) where
@@ -258,6 +264,52 @@ opens-fresh local remote segments clock outgoing incoming headers r does ready =
     let l = lent [] [] [] outgoing incoming headers in
     ap numbersOf (open-stands local remote segments clock l r (record { opens = does; ready = ready }) .end)
 
+refused-open : (why : Option Refusal) (not : Refusal) (s : Stream) → openedOutcome why ≡ Refused not → openedStream why s ≡ freshStream 0 0 0 0
+refused-open none not s o = let z : _≡_ {A = ℕ} 0 1 = cc in absurd (omega arith)
+refused-open (some why) not s o = refl
+
+unless-refused : (why : Option Refusal) → refusedBy (openedOutcome why) ≡ none → openedOutcome why ≡ Ready
+unless-refused none h = refl
+unless-refused (some why) h = absurd (no-some h refl)
+
+-- a segment ceiling of 0 breaks a rule
+no-ceiling : rules (fresh 0 0 0 0) ≡ false
+unfolding rules fresh noSlots
+no-ceiling = refl
+
+broken-call : (c : Call) (e : End) → rules e ≡ false → (answer c e) .outcome ≡ Refused BrokenRecords
+unfolding model.write model.writeRefusal model-in.deliver model-in.deliverRefusal model-out.drive model-out.driveRefusal model-out.take model-out.takeRefusal model-in.read model-in.readRefusal model.close model.closeRefusal gate
+broken-call (writeCall bytes) e h = rw h refl
+broken-call (deliverCall datagram clock) e h = rw h refl
+broken-call (driveCall clock) e h = rw h refl
+broken-call (takeCall room) e h = rw h refl
+broken-call (readCall room) e h = rw h refl
+broken-call closeCall e h = rw h refl
+
+broken-on : (c : Call) (s : Stream) (t : Totals) (l : Lent) → rules (seen s t l) ≡ false → refusedBy ((onRecords (answer c) s t l) .outcome) ≡ some 1
+unfolding onRecords
+broken-on c s t l h =
+    by-test (λ (a : Answer). refusedBy (a .outcome) ≡ some 1) (laidOut s l) (answer c (seen s t l)) (refused BrokenRecords (seen s t l))
+    (λ z. ap refusedBy (broken-call c (seen s t l) h)) (λ z. refl)
+
+pub open-says : (local remote segments clock : ℕ) (outgoing incoming headers : Bytes) (r : Opened) → Opens local remote segments clock outgoing incoming headers r
+    → OpenSays local remote segments clock outgoing incoming headers r
+unfolding freshStream
+open-says local remote segments clock outgoing incoming headers r does =
+    let stream : (why : Refusal) → r .outcome ≡ Refused why → r .stream ≡ freshStream 0 0 0 0 =
+    λ why o. does .stream ∙ refused-open (openWhy segments clock outgoing incoming headers) why (freshStream local remote segments clock) (sym (does .outcome) ∙ o) in
+    record {
+      in-order = refusal-sentences .open-in-order local remote segments clock outgoing incoming headers r does;
+      ready = λ h. does .outcome ∙ unless-refused (openWhy segments clock outgoing incoming headers) (sym (ap refusedBy (does .outcome)) ∙ h);
+      numbers = opens-fresh local remote segments clock outgoing incoming headers r does;
+      empty = λ ready sent held queue.
+          open-stands local remote segments clock (lent sent held queue outgoing incoming headers) r (record { opens = does; ready = ready }) .end;
+      refused = λ why o. (ap (λ (s : Stream). s .ids .segments) (stream why o), does .totals);
+      unusable = λ why o c l.
+          broken-on c (r .stream) (r .totals) l
+          (ap₂ (λ (s : Stream) (t : Totals). rules (seen s t l)) (stream why o) (does .totals) ∙ ap rules (seen-fresh 0 0 0 0 l (omega arith)) ∙ no-ceiling);
+    }
+
 -- header coding and blocks
 
 pub encodes : (h : Header) (buf buf′ : Bytes) (r : Outcome) → Encodes h buf buf′ r
@@ -314,7 +366,7 @@ demand-one 𝓤 H A mem run =
       read = λ κs x r y. promises 𝓤 _ _ _ _ (c .read κs x r y) (read-says _ _ _ _ _ _ _);
       close = λ κs x r y. promises 𝓤 _ _ _ _ (c .close κs x r y) (close-says _ _ _ _ _);
       look = λ κs x r y. promises 𝓤 _ _ _ _ (c .look κs x r y) (look-shows _ _ _ _);
-      opens = λ κs x r y. promises 𝓤 _ _ _ _ (c .opens κs x r y) (opens-fresh _ _ _ _ _ _ _ r);
+      opens = λ κs x r y. promises 𝓤 _ _ _ _ (c .opens κs x r y) (open-says _ _ _ _ _ _ _ r);
       encode = λ κs x r y. promises 𝓤 _ _ _ _ (c .encode κs x r y) (encodes _ _ _ r);
       decode = λ κs x r y. promises 𝓤 _ _ _ _ (c .decode κs x r y) (decodes _ r);
       next-at = λ κs x r y. promises 𝓤 _ _ _ _ (c .next-at κs x r y) (reads-block _ _ r);

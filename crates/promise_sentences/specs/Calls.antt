@@ -4,7 +4,7 @@
 -- only: the proofs are proofs/Calls.antt. Assumes nothing.
 use Prim.Native.Nat.{ℕ, _+_, _≤_, _<_}
 use mathlib.Core.Path.{_≡_}
-use mathlib.Core.List.{[]}
+use mathlib.Core.List.{List, [], _∷_}
 use mathlib.Core.Option.{none, some}
 use mathlib.Core.Bool.{true, false}
 use lib.ListN.{length, take, drop, getD}
@@ -44,11 +44,14 @@ use Rattle.model.specs.Rules.{rules}
 use Rattle.model.specs.Sending as model
 use Rattle.model.specs.Receiving as model-in
 use Rattle.model.specs.Driving as model-out
+use Rattle.model.specs.Calls.{Call, answer}
 use Rattle.model.specs.Order.{refusedBy, undecodedBy}
 use Rattle.records.specs.declared.Stream.{Stream}
 use Rattle.records.specs.declared.Totals.{Totals}
+use Rattle.records.specs.declared.opening.Opened.{Opened}
 use Rattle.records.specs.Seen.{Lent, seen}
 use Rattle.records.specs.Beside.{Beside}
+use Rattle.records.specs.Open.{freshTotals}
 use Rattle.records.proofs.«open» as opening
 use Rattle.answers.specs.declared.step.Step.{Step}
 use Rattle.broken_records.specs.Broken.{lent}
@@ -61,6 +64,7 @@ use Rattle.udx.proofs.read as read
 use Rattle.udx.proofs.close as close
 use Rattle.udx.proofs.look as look
 use Rattle.promise_sentences.specs.Answers.{Numbers, numbersOn, Shows}
+use Rattle.promise_sentences.specs.Refusals.{InOrder, openTestsOn}
 
 -- the sentences
 
@@ -108,6 +112,18 @@ freshNumbers local remote segments clock =
       inflightPackets = 0;
       inflightBytes = 0;
     }
+
+-- what an open answers and hands out
+pub record OpenSays (local remote segments clock : ℕ) (outgoing incoming headers : Bytes) (r : Opened) : Type 0 where
+  pub in-order : InOrder (openTestsOn segments clock outgoing incoming headers) (1 ∷ 3 ∷ 4 ∷ []) (r .outcome)
+  pub ready : refusedBy (r .outcome) ≡ none → r .outcome ≡ Ready
+  pub numbers : r .outcome ≡ Ready → numbersOn (r .stream) (r .totals) ≡ freshNumbers local remote segments clock
+  -- 'Fresh': "stores empty", "queue empty", whatever the words hold, which an open is not lent
+  pub empty : r .outcome ≡ Ready → (sent held queue : List ℕ)
+      → seen (r .stream) (r .totals) (lent sent held queue outgoing incoming headers) ≡ model-stream.fresh local remote segments clock
+  -- a refused open hands out a stream of ceiling 0 and no totals, which every call refuses with 1, whatever it is lent
+  pub refused : (why : Refusal) → r .outcome ≡ Refused why → (r .stream .ids .segments ≡ 0) × (r .totals ≡ freshTotals)
+  pub unusable : (why : Refusal) → r .outcome ≡ Refused why → (c : Call) (l : Lent) → refusedBy ((onRecords (answer c) (r .stream) (r .totals) l) .outcome) ≡ some 1
 
 -- look: "the next datagram (first entry left to take whose packet is there) is shown .., an empty part when nothing is left to take and
 -- also in place of refusal 1"
@@ -228,15 +244,12 @@ module _ {M : Type 1} (𝓤 : URA M) (H : Heap 𝓤) (A : Atoms 𝓤) (mem : Mem
       Promises 𝓤 (c .requires tt) (c .ensures tt r y)
       (LookShows (now r) s t (lent (now sent) (now held) (now queue) (now outgoing) (now incoming) (now headers)))
 
-  -- what an open that is not refused hands out; its refusals are Refusals.antt's
   abbrev pub Open : Type 2
   Open =
       (κs : Lfts 3) (x : Args opening.signature κs) (r : Res opening.signature κs) (y : AtExit opening.ended κs)
       → let (local, (remote, (segments, (clock, (outgoing, (incoming, (headers, _))))))) = x in
       let c = opening.clauses 𝓤 H A mem run κs x in
-      Promises 𝓤 (c .requires tt) (c .ensures tt r y)
-      (r .outcome ≡ Ready
-      → numbersOn (r .stream) (r .totals) ≡ freshNumbers local remote segments (clock .0))
+      Promises 𝓤 (c .requires tt) (c .ensures tt r y) (OpenSays local remote segments (clock .0) (now outgoing) (now incoming) (now headers) r)
 
   -- header coding
 
