@@ -5,7 +5,7 @@ use Prim.Native.Nat.{ℕ, zero, suc, _+_, _≤_, _<_}
 use native.Mathlib.Omega.{arith}
 use mathlib.Core.Path.{_≡_, refl, sym, ap, _∙_}
 use mathlib.Core.Option.{none, some}
-use mathlib.Core.Bool.{Bool, true, false, cond, _||_, true≢false}
+use mathlib.Core.Bool.{Bool, true, false, cond}
 use lib.Dec.{ltb, eqb}
 use lib.ListN.{length, getD}
 use borrow.Author.Tests.{ltb-false}
@@ -60,6 +60,7 @@ use Rattle.promise_ways.proofs.FromC.{opened-back, step-known, opened-known, br
 use Rattle.promise_sentences.specs.Answers.{numbersInC}
 use Rattle.promise_sentences.specs.Calls.{Puts, freshNumbers, OpenSays, LookShows}
 use Rattle.promise_sentences.specs.CallsFromC.{SameNumbers, EquationsInC, RefusedInC, badHeader, DemandOneFromC}
+use Rattle.promise_sentences.proofs.ShutOut.{or-left, or-right}
 use Rattle.promise_sentences.proofs.Calls.{promises, take-says, read-says, look-shows, open-says, encodes, decodes}
 
 -- numbers that are known stand for themselves
@@ -82,14 +83,6 @@ flag-there : (n : ℕ) → ltb 1 n ≡ false → cond (eqb n 1) 1 0 ≡ n
 flag-there zero h = refl
 flag-there (suc zero) h = refl
 flag-there (suc (suc n)) h = let l = ltb-false 1 (suc (suc n)) h in absurd (omega arith)
-
-or-left : (a b : Bool) → (a || b) ≡ false → a ≡ false
-or-left true b h = absurd (true≢false h)
-or-left false b h = refl
-
-or-right : (a b : Bool) → (a || b) ≡ false → b ≡ false
-or-right true b h = absurd (true≢false h)
-or-right false b h = h
 
 stream-there : (s : FlatStream) → isStrange (s .ending) ≡ false → flatStream (streamOf s) ≡ s
 unfolding streamOf flatStream

@@ -4,23 +4,21 @@
 -- renders it. Statements only: the proofs are proofs/Answers.antt. Assumes nothing.
 use Prim.Native.Nat.{ℕ, _+_, _≤_, _<_}
 use mathlib.Core.Path.{_≡_}
-use mathlib.Core.List.{List, [], _∷_}
-use mathlib.Core.Option.{Option, none}
-use mathlib.Core.Bool.{Bool, true}
+use mathlib.Core.List.{List, []}
+use mathlib.Core.Option.{Option}
+use mathlib.Core.Bool.{Bool}
 use lib.Dec.{eqb}
 use lib.ListN.{length}
 use Rattle.error.specs.Answers.{numberOf}
 use Rattle.error.specs.declared.UdxError.{UdxError}
 use Rattle.error.specs.declared.Refusal.{Refusal}
 use Rattle.error.specs.declared.Outcome.{Outcome}
-use Rattle.error.specs.declared.Outcome.the-variants.{Ready, Done, Nothing, Refused}
+use Rattle.error.specs.declared.Outcome.the-variants.{Refused}
 use Rattle.model.specs.Lists.{Bytes}
 use Rattle.model.specs.Slots.{get}
 use Rattle.model.specs.Stream.{CloseState, End, fresh}
-use Rattle.model.specs.Sending.{goes, piece, writeRefusal}
-use Rattle.model.specs.Receiving.{deliverRefusal}
 use Rattle.model.specs.Driving.{firstThere}
-use Rattle.model.specs.Calls.{Call, writeCall, deliverCall, driveCall, takeCall, answer, after}
+use Rattle.model.specs.Calls.{Call, answer, after}
 use Rattle.records.specs.declared.Stream.{Stream}
 use Rattle.records.specs.declared.Totals.{Totals}
 use Rattle.records.specs.declared.opening.Opened.{Opened}
@@ -36,6 +34,7 @@ use Rattle.udx_c.specs.declared.batches.FlatPart.{FlatPart}
 use Rattle.udx_c.specs.Shown.{storeOf, bytesOf, Looks}
 use Rattle.promise_ways.specs.Calls.{Plain, PlainEvent, PlainDid, PlainRun, plainLeft, plainLast, plainOpened, outcomeOf, recordsOf, eventsOf, OpenedInC}
 use Rattle.promise_ways.specs.Mixed.{Mixed, asEvent, asEvents, MixedDid, OpenedEither, MixedRun}
+use Rattle.promise_sentences.specs.ShutOut.{LiveAnswer}
 
 -- the numbers of a stream and its totals
 
@@ -174,15 +173,9 @@ pub record Answering (e : End) (Next : Type 0) (Known : Next → Type 0) (call :
   pub puts : (v : Next) → Known v → bytes v ≡ (answer (call v) e) .bytes
   pub segments : (v : Next) → Known v → segment v ≡ (answer (call v) e) .segment
   pub ends : (v : Next) → Known v → end v ≡ (answer (call v) e) .end
-  -- "Shut out by demand 2: refusing every datagram,"
-  pub datagrams-accepted : (v : Next) → Known v → (datagram : Bytes) (clock : ℕ) → call v ≡ deliverCall datagram clock → deliverRefusal datagram clock e ≡ none
-      → outcome v ≡ Ready
-  -- "answering waiting to all writes,"
-  pub writes-accepted : (v : Next) → Known v → (b : ℕ) (bs : Bytes) → call v ≡ writeCall (b ∷ bs) → writeRefusal (b ∷ bs) e ≡ none
-      → goes (piece (b ∷ bs)) (e .sender) ≡ true → (outcome v ≡ Ready) × (0 < count v)
-  -- "answering done or none with packets queued"
-  pub done-with-none-queued : (v : Next) → Known v → (clock : ℕ) → call v ≡ driveCall clock → outcome v ≡ Done → e .queue .entries ≡ []
-  pub none-with-none-left : (v : Next) → Known v → (room : ℕ) → call v ≡ takeCall room → outcome v ≡ Nothing → e .queue .left ≡ 0
+  -- and it is none of the answers that demand 2 shuts out
+  pub live : (v : Next) → Known v
+      → LiveAnswer (call v) e (record { outcome = outcome v; count = count v; bytes = bytes v; segment = segment v; end = end v })
 
 -- look
 
