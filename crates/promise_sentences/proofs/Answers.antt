@@ -20,13 +20,15 @@ use Rattle.records.proofs.SeenOutgoing.{outgoing-length}
 use Rattle.promise.specs.Runs.{Records, seenOf, callOf, callsOf, Event, Did, answerOf, Same}
 use Rattle.promise.proofs.Runs.{open-clear, same-as-model}
 use Rattle.flat.specs.Flat.{streamOf, totalsOf}
+use Rattle.udx_c.specs.declared.batches.FlatPart.{FlatPart}
+use Rattle.udx_c.specs.Shown.{ShownBy}
 use Rattle.promise_ways.specs.Calls.{Plain, PlainEvent, PlainDid, openedOf, recordsOf, eventOf, eventsOf}
 use Rattle.promise_ways.specs.FromC.{SameInC}
 use Rattle.promise_ways.specs.Mixed.{Mixed, asEvent, asEvents, MixedDid, SameEitherWay}
 use Rattle.promise_ways.proofs.FromC.{one-is, opened-in-c, same-from-c}
 use Rattle.promise_ways.proofs.Mixed.{opened-either, same-mixed}
 use Rattle.promise_sentences.specs.ShutOut.{LiveAnswer}
-use Rattle.promise_sentences.specs.Answers.{numbersOf, Answering, Shows, AfterCalls, DemandTwoOnRecords, AfterCallsInC, DemandTwoFromC, AfterMixedCalls, DemandTwoMixed}
+use Rattle.promise_sentences.specs.Answers.{numbersOf, Answering, Shows, AfterCalls, DemandTwoOnRecords, ShowsInC, AfterCallsInC, DemandTwoFromC, AfterMixedCalls, DemandTwoMixed}
 use Rattle.promise_sentences.proofs.ShutOut.{live-answer}
 
 -- calls that answer as the definition
@@ -80,6 +82,10 @@ demand-two-on-records local remote segments clock l o h events run =
 
 -- from C
 
+shows-in-c : (x : Plain) (e : End) (p : FlatPart) → rules e ≡ true → ShownBy (look e) (x .lent .outgoing) (x .lent .headers) p → ShowsInC x e p
+shows-in-c x e p ok s =
+    record { bytes = shows _ e ok (s .bytes); long = s .long ∙ ap length (sym (s .bytes)); flag = s .flag; within = s .within }
+
 after-calls-in-c : (x : Plain) (e : End) → SameInC x e → rules e ≡ true → AfterCallsInC x e
 unfolding streamOf totalsOf seen seenQueue
 after-calls-in-c x e same ok =
@@ -89,10 +95,7 @@ after-calls-in-c x e same ok =
       records = after-calls (recordsOf x) e ok (same .records);
       next = answering e slots PlainEvent (PlainDid x) (λ v. callOf (v .request)) (λ v. answerOf (eventOf v)) (same .next);
       never-one = same .unbroken;
-      look = λ p h. shows _ e ok (same .shown p h .bytes);
-      look-length = λ p h. let q = same .shown p h in q .long ∙ ap length (sym (q .bytes));
-      look-flag = λ p h. same .shown p h .flag;
-      look-within = λ p h. same .shown p h .within;
+      look = λ p h. shows-in-c x e p ok (same .shown p h);
     }
 
 pub demand-two-from-c : DemandTwoFromC
@@ -110,6 +113,7 @@ after-mixed x e ok same =
       records = after-calls x e ok (same .records);
       next = answering e slots Mixed (MixedDid x) (λ v. callOf (asEvent v .request)) (λ v. answerOf (asEvent v)) (same .next);
       never-one = λ v d why o one. same .unbroken v d (o ∙ ap Refused (one-is why one));
+      look = λ n h p looks. shows-in-c n e p ok (same .shown n h p looks);
     }
 
 pub demand-two-mixed : DemandTwoMixed

@@ -31,6 +31,7 @@ use Rattle.model.specs.Receiving as model-in
 use Rattle.model.specs.Driving as model-out
 use Rattle.model.specs.Order.{refusedBy, undecodedBy}
 use Rattle.model.proofs.Slots.{no-some, some-inj}
+use Rattle.model_rules.proofs.InvariantCalls.{or-false}
 use Rattle.records.specs.declared.Stream.{Stream}
 use Rattle.records.specs.declared.Totals.{Totals}
 use Rattle.records.specs.declared.opening.Opened.{Opened}
@@ -60,7 +61,6 @@ use Rattle.promise_ways.proofs.FromC.{opened-back, step-known, opened-known, br
 use Rattle.promise_sentences.specs.Answers.{numbersInC}
 use Rattle.promise_sentences.specs.Calls.{Puts, freshNumbers, OpenSays, LookShows}
 use Rattle.promise_sentences.specs.CallsFromC.{SameNumbers, EquationsInC, RefusedInC, badHeader, DemandOneFromC}
-use Rattle.promise_sentences.proofs.ShutOut.{or-left, or-right}
 use Rattle.promise_sentences.proofs.Calls.{promises, take-says, read-says, look-shows, open-says, encodes, decodes}
 
 -- numbers that are known stand for themselves
@@ -88,8 +88,9 @@ stream-there : (s : FlatStream) → isStrange (s .ending) ≡ false → flatStre
 unfolding streamOf flatStream
 stream-there s h =
     let e = s .ending in
-    let rest = or-right (ltb 3 (e .error)) _ h in
-    rw (error-there (e .error) (or-left (ltb 3 (e .error)) _ h), state-there (e .state) (or-left (ltb 3 (e .state)) _ rest), flag-there (e .ended) (or-right (ltb 3 (e .state)) _ rest)) refl
+    let (error, rest) = or-false (ltb 3 (e .error)) _ h in
+    let (state, flag) = or-false (ltb 3 (e .state)) _ rest in
+    rw (error-there (e .error) error, state-there (e .state) state, flag-there (e .ended) flag) refl
 
 totals-there : (t : FlatTotals) → flatTotals (totalsOf t) ≡ t
 unfolding totalsOf flatTotals

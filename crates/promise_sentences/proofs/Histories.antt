@@ -22,7 +22,7 @@ use Rattle.promise.specs.TwoEndsOnRecords.{Side, Brings}
 use Rattle.promise_ways.specs.FromC.{sideOf}
 use Rattle.promise_ways.specs.Mixed.{asEvent}
 use Rattle.promise_ways.proofs.Mixed.{crossing}
-use Rattle.promise_sentences.specs.Histories.{Counted, CountedInModel, GoesOn, Allowed, no-delivery, copy, refused, AnyLine, AnyLineFromC, AnyMixedLine, AllowedCall, AnyLineInModel}
+use Rattle.promise_sentences.specs.Histories.{HistoryCounts, HistoryCountsInModel, GoesOn, Allowed, no-delivery, copy, refused, AnyLine, AnyLineFromC, AnyMixedLine, AllowedCall, AnyLineInModel}
 
 nothing-more : (h : History) → record { accepted = h .accepted; pieces = h .pieces; reads = h .reads; taken = h .taken; brought = h .brought ++ [] } ≡ h
 nothing-more h =
@@ -36,8 +36,8 @@ no-bytes : (size : Option ℕ) → datagramsOf size [] ≡ []
 no-bytes none = refl
 no-bytes (some size) = refl
 
-pub counted : Counted
-counted =
+pub history-counts : HistoryCounts
+history-counts =
     record {
       write-accepts = λ bytes buf r h. refl;
       write-sends = λ bytes buf r h. refl;
@@ -51,8 +51,8 @@ counted =
       takes-none = λ buf buf′ r h e. rw (e, no-bytes (segmentOf (r .segment))) (append-nil (h .taken));
     }
 
-pub counted-in-model : CountedInModel
-counted-in-model =
+pub history-counts-in-model : HistoryCountsInModel
+history-counts-in-model =
     record {
       write-accepts = λ bytes a h. refl;
       write-sends = λ bytes a h. refl;

@@ -3,7 +3,7 @@ use Prim.Native.Nat.{ℕ, _+_, _-_, _^_, _≤_, _<_}
 use native.Mathlib.Omega.{arith}
 use mathlib.Core.Path.{_≡_, refl, ap, _∙_}
 use mathlib.Core.Option.{Option, none}
-use mathlib.Core.Bool.{Bool, true, false, _||_, true≢false}
+use mathlib.Core.Bool.{true, false, _||_, true≢false}
 use mathlib.Core.List.{[], _++_}
 use lib.Dec.{ltb, leb, eqb}
 use lib.ListN.{length, drop, length-take}
@@ -22,21 +22,14 @@ use Rattle.model.specs.Calls.{Call, writeCall, deliverCall, driveCall, takeCall
 use Rattle.model.specs.NotDead.{Deliverable, Writable, Drivable, Takeable}
 use Rattle.model.proofs.Gate.{clear, and-left, and-right, and-false}
 use Rattle.model.proofs.NotDead.{not-dead}
+use Rattle.model_rules.proofs.InvariantCalls.{or-false}
 use Rattle.promise_sentences.specs.ShutOut.{LiveAnswer}
-
-pub or-left : (a b : Bool) → (a || b) ≡ false → a ≡ false
-or-left true b h = absurd (true≢false h)
-or-left false b h = refl
-
-pub or-right : (a b : Bool) → (a || b) ≡ false → b ≡ false
-or-right true b h = absurd (true≢false h)
-or-right false b h = h
 
 none-left : (n : ℕ) → ltb 0 n ≡ false → n ≡ 0
 none-left n h = let l = ltb-false 0 n h in omega arith
 
 clock-good : (clock last : ℕ) → (leb (2 ^ 60) clock || ltb clock last) ≡ false → (clock < 2 ^ 60) × (last ≤ clock)
-clock-good clock last h = (leb-false (2 ^ 60) clock (or-left (leb (2 ^ 60) clock) _ h), ltb-false clock last (or-right (leb (2 ^ 60) clock) _ h))
+clock-good clock last h = let (fits, next) = or-false (leb (2 ^ 60) clock) _ h in (leb-false (2 ^ 60) clock fits, ltb-false clock last next)
 
 no-error : (x : UdxError) → isReset x ≡ false → isEof x ≡ false → isTimedOut x ≡ false → x ≡ error.None
 no-error error.None a b c = refl

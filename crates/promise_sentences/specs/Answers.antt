@@ -33,7 +33,7 @@ use Rattle.flat.specs.Bytes.{errorOf, stateOf}
 use Rattle.udx_c.specs.declared.batches.FlatPart.{FlatPart}
 use Rattle.udx_c.specs.Shown.{storeOf, bytesOf, Looks}
 use Rattle.promise_ways.specs.Calls.{Plain, PlainEvent, PlainDid, PlainRun, plainLeft, plainLast, plainOpened, outcomeOf, recordsOf, eventsOf, OpenedInC}
-use Rattle.promise_ways.specs.Mixed.{Mixed, asEvent, asEvents, MixedDid, OpenedEither, MixedRun}
+use Rattle.promise_ways.specs.Mixed.{StandsFor, Mixed, asEvent, asEvents, MixedDid, OpenedEither, MixedRun}
 use Rattle.promise_sentences.specs.ShutOut.{LiveAnswer}
 
 -- the numbers of a stream and its totals
@@ -209,6 +209,13 @@ DemandTwoOnRecords =
 
 -- from C: outcome and refusal are one outcome (`outcomeOf`)
 
+-- the part that `udx_look` names has these bytes and no more, and lies in its store, the header store at 1 and the outgoing store at 0
+pub record ShowsInC (x : Plain) (e : End) (p : FlatPart) : Type 0 where
+  pub bytes : Shows (bytesOf p (x .lent .outgoing) (x .lent .headers)) e
+  pub long : p .length ≡ length (bytesOf p (x .lent .outgoing) (x .lent .headers))
+  pub flag : p .header ≤ 1
+  pub within : p .start + p .length ≤ length (storeOf p (x .lent .outgoing) (x .lent .headers))
+
 pub record AfterCallsInC (x : Plain) (e : End) : Type 0 where
   pub numbers : numbersInC (x .stream) (x .totals) ≡ numbersOf e
   -- and all of it holds of the records that the numbers stand for
@@ -218,11 +225,7 @@ pub record AfterCallsInC (x : Plain) (e : End) : Type 0 where
       (λ v. segmentOf (v .step .segment))
       (λ v. seenOf (recordsOf (plainLeft v)))
   pub never-one : (v : PlainEvent) → PlainDid x v → v .step .refusal ≡ 1 → ⊥
-  -- the part that is named has these bytes and no more, and lies in its store, the header store at 1 and the outgoing store at 0
-  pub look : (p : FlatPart) → Looks (x .stream) (x .totals) (x .lent) p → Shows (bytesOf p (x .lent .outgoing) (x .lent .headers)) e
-  pub look-length : (p : FlatPart) → Looks (x .stream) (x .totals) (x .lent) p → p .length ≡ length (bytesOf p (x .lent .outgoing) (x .lent .headers))
-  pub look-flag : (p : FlatPart) → Looks (x .stream) (x .totals) (x .lent) p → p .header ≤ 1
-  pub look-within : (p : FlatPart) → Looks (x .stream) (x .totals) (x .lent) p → p .start + p .length ≤ length (storeOf p (x .lent .outgoing) (x .lent .headers))
+  pub look : (p : FlatPart) → Looks (x .stream) (x .totals) (x .lent) p → ShowsInC x e p
 
 abbrev pub DemandTwoFromC : Type 0
 DemandTwoFromC =
@@ -241,6 +244,8 @@ pub record AfterMixedCalls (x : Records) (e : End) : Type 0 where
       (λ v. segmentOf (asEvent v .step .segment))
       (λ v. seenOf (left (asEvent v)))
   pub never-one : (v : Mixed) → MixedDid x v → (why : Refusal) → asEvent v .step .outcome ≡ Refused why → numberOf why ≡ 1 → ⊥
+  -- from C, on any numbers that stand for the records
+  pub look : (n : Plain) → StandsFor n x → (p : FlatPart) → Looks (n .stream) (n .totals) (n .lent) p → ShowsInC n e p
 
 abbrev pub DemandTwoMixed : Type 0
 DemandTwoMixed =

@@ -1,7 +1,7 @@
 -- What demand 3 is about, in the sentences of 01, 'What the contracts say', 4, and of call 5: which bytes, packets and numbers a history has
--- after a call (`Counted` on the records and from C, `CountedInModel`), how a list goes on (`GoesOn`), and which lists of calls are over a
--- line (`AnyLine`, `AnyLineFromC`, `AnyMixedLine`, `AnyLineInModel`): all of those that 01 allows, so that the two-end theorems leave none
--- out. Statements only: the proofs are proofs/Histories.antt. Assumes nothing.
+-- after a call (`HistoryCounts` on the records and from C, `HistoryCountsInModel`), how a list goes on (`GoesOn`), and which lists of calls
+-- are over a line (`AnyLine`, `AnyLineFromC`, `AnyMixedLine`, `AnyLineInModel`): all of those that 01 allows, so that the two-end theorems
+-- leave none out. Statements only: the proofs are proofs/Histories.antt. Assumes nothing.
 use Prim.Native.Nat.{ℕ, suc, _<_}
 use mathlib.Core.Path.{_≡_}
 use mathlib.Core.List.{List, [], _∷_, _++_, List·Memᴰ}
@@ -37,7 +37,7 @@ use Rattle.promise_ways.specs.Mixed.{Mixed, inC, asEvent, MixedDid, plainOf, Op
 -- what a history counts
 
 -- a call that leaves a step and, of a take and a read, a buffer; from C the step is what the numbers stand for
-pub record Counted : Type 0 where
+pub record HistoryCounts : Type 0 where
   -- "Each write brings its own bytes": those of its count are accepted, and went in pieces of up to 1,380
   pub write-accepts : (bytes buf : Bytes) (r : Step) (h : History) → noted (toWrite bytes) r buf h .accepted ≡ h .accepted ++ take (r .count) bytes
   pub write-sends : (bytes buf : Bytes) (r : Step) (h : History) → noted (toWrite bytes) r buf h .pieces ≡ h .pieces ++ cut (length bytes) 1_380 (take (r .count) bytes)
@@ -61,7 +61,7 @@ pub record Counted : Type 0 where
   pub takes-none : (buf buf′ : Bytes) (r : Step) (h : History) → r .count ≡ 0 → noted (toTake buf) r buf′ h .taken ≡ h .taken
 
 -- the same of an answer of the model
-pub record CountedInModel : Type 0 where
+pub record HistoryCountsInModel : Type 0 where
   pub write-accepts : (bytes : Bytes) (a : Answer) (h : History) → model.noted (writeCall bytes) a h .accepted ≡ h .accepted ++ take (a .count) bytes
   pub write-sends : (bytes : Bytes) (a : Answer) (h : History) → model.noted (writeCall bytes) a h .pieces ≡ h .pieces ++ cut (length bytes) 1_380 (take (a .count) bytes)
   pub read-reads : (room : ℕ) (a : Answer) (h : History) → model.noted (readCall room) a h .reads ≡ h .reads ++ a .bytes

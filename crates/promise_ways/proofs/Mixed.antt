@@ -1,17 +1,19 @@
 -- Lists that mix the ways to make a call: a call from C on numbers that stand for the records is the call on those records (`one`, in
 -- FromC.antt), so a mixed list is a list of calls on the records, and their theorems hold of it. Assumes nothing.
 use Prim.Native.Nat.{ℕ}
-use mathlib.Core.Path.{refl, subst}
+use mathlib.Core.Path.{refl, ap, _∙_, subst}
 use mathlib.Core.List.{List, [], _∷_}
 use mathlib.Core.Logic.{inl, inr}
 use Rattle.records.specs.declared.opening.Opened.{Opened}
 use Rattle.records.specs.Seen.{Lent}
+use Rattle.udx.specs.Look.{shownOf}
 use Rattle.promise.specs.Runs.{Records, left, Did, Run, OpenedBy}
 use Rattle.promise.specs.TwoEndsOnRecords as records
 use Rattle.promise.specs.TwoEndsOnRecords.{Side, Ends, turned, OverALine, ReadsAlone, Carried}
 use Rattle.promise.proofs.Runs.{same-as-model}
 use Rattle.promise.proofs.TwoEndsOnRecords.{two-ends-on-records}
 use Rattle.flat.proofs.RoundTrip.{comes-back}
+use Rattle.udx_c.proofs.ShownLaws.{looks-shown}
 use Rattle.promise_ways.specs.Mixed.{
   Mixed,
   inRattle,
@@ -63,6 +65,9 @@ same-mixed local remote segments clock l o h calls d =
       records = same;
       next = λ v e. same .next (asEvent v) (did v _ e);
       unbroken = λ v e z. same .unbroken (asEvent v) (did v _ e) z;
+      shown = λ p h part looks.
+          (let is = ap (λ (y : Records). shownOf (y .stream) (y .totals) (y .lent)) (h .records) ∙ same .shown in
+          rw is at (looks-shown (p .stream) (p .totals) (p .lent) part looks (h .known)));
     }
 
 -- two ends

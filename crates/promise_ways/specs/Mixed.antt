@@ -10,6 +10,7 @@ use mathlib.Core.Logic.{_⊎_}
 use Rattle.error.specs.declared.Refusal.the-variants.{BrokenRecords}
 use Rattle.error.specs.declared.Outcome.the-variants.{Refused}
 use Rattle.model.specs.Stream.{End, fresh}
+use Rattle.model.specs.Driving.{look}
 use Rattle.model.specs.Calls.{answer, after}
 use Rattle.model_ends.specs.TwoEnds.{unreadInOrder, Id}
 use Rattle.records.specs.declared.opening.Opened.{Opened}
@@ -20,6 +21,8 @@ use Rattle.promise.specs.TwoEndsOnRecords.{Side, Ends, Turn, turned, Brings, Is
 use Rattle.flat.specs.declared.structs.FlatStep.{FlatStep}
 use Rattle.flat.specs.Bytes.{isStrange}
 use Rattle.flat.specs.Flat.{flatStream, flatTotals}
+use Rattle.udx_c.specs.declared.batches.FlatPart.{FlatPart}
+use Rattle.udx_c.specs.Shown.{ShownBy, Looks}
 use Rattle.promise_ways.specs.Calls.{Plain, PlainEvent, PlainDid, plainLeft, openedOf, recordsOf, eventOf, OpenedInC}
 
 -- numbers that stand for records: no byte of them is strange, and words and stores are the same
@@ -75,6 +78,9 @@ pub record SameEitherWay (x : Records) (e : End) : Type 0 where
   pub next : (v : Mixed) → MixedDid x v → answerOf (asEvent v) ≡ answer (callOf (asEvent v .request)) e
   -- 01, refusal 1: "(never so after calls from a fresh stream)"
   pub unbroken : (v : Mixed) → MixedDid x v → asEvent v .step .outcome ≡ Refused BrokenRecords → ⊥
+  -- the part that `udx_look` names on any numbers that stand for the records lies in its store and has just the bytes that the model shows
+  pub shown : (p : Plain) → StandsFor p x → (part : FlatPart) → Looks (p .stream) (p .totals) (p .lent) part
+      → ShownBy (look e) (p .lent .outgoing) (p .lent .headers) part
 
 abbrev pub SameMixed : Type 0
 SameMixed =
