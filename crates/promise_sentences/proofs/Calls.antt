@@ -294,20 +294,23 @@ broken-on c s t l h =
 
 pub open-says : (local remote segments clock : ℕ) (outgoing incoming headers : Bytes) (r : Opened) → Opens local remote segments clock outgoing incoming headers r
     → OpenSays local remote segments clock outgoing incoming headers r
-unfolding freshStream
+unfolding seen seenQueue fresh
 open-says local remote segments clock outgoing incoming headers r does =
-    let stream : (why : Refusal) → r .outcome ≡ Refused why → r .stream ≡ freshStream 0 0 0 0 =
-    λ why o. does .stream ∙ refused-open (openWhy segments clock outgoing incoming headers) why (freshStream local remote segments clock) (sym (does .outcome) ∙ o) in
+    let why = openWhy segments clock outgoing incoming headers in
+    let unused : (n : Refusal) → r .outcome ≡ Refused n → (l : Lent) → seen (r .stream) (r .totals) l ≡ fresh 0 0 0 0 =
+    λ n o l.
+    ap₂ (λ (s : Stream) (t : Totals). seen s t l)
+    (does .stream ∙ refused-open why n (freshStream local remote segments clock) (sym (does .outcome) ∙ o))
+    (does .totals)
+    ∙ seen-fresh 0 0 0 0 l (omega arith) in
     record {
       in-order = refusal-sentences .open-in-order local remote segments clock outgoing incoming headers r does;
-      ready = λ h. does .outcome ∙ unless-refused (openWhy segments clock outgoing incoming headers) (sym (ap refusedBy (does .outcome)) ∙ h);
+      ready = λ h. does .outcome ∙ unless-refused why (sym (ap refusedBy (does .outcome)) ∙ h);
       numbers = opens-fresh local remote segments clock outgoing incoming headers r does;
       empty = λ ready sent held queue.
           open-stands local remote segments clock (lent sent held queue outgoing incoming headers) r (record { opens = does; ready = ready }) .end;
-      refused = λ why o. (ap (λ (s : Stream). s .ids .segments) (stream why o), does .totals);
-      unusable = λ why o c l.
-          broken-on c (r .stream) (r .totals) l
-          (ap₂ (λ (s : Stream) (t : Totals). rules (seen s t l)) (stream why o) (does .totals) ∙ ap rules (seen-fresh 0 0 0 0 l (omega arith)) ∙ no-ceiling);
+      refused = λ n o. ap numbersOf (unused n o (lent [] [] [] outgoing incoming headers));
+      unusable = λ n o c l. broken-on c (r .stream) (r .totals) l (ap rules (unused n o l) ∙ no-ceiling);
     }
 
 -- header coding and blocks

@@ -51,7 +51,6 @@ use Rattle.records.specs.declared.Totals.{Totals}
 use Rattle.records.specs.declared.opening.Opened.{Opened}
 use Rattle.records.specs.Seen.{Lent, seen}
 use Rattle.records.specs.Beside.{Beside}
-use Rattle.records.specs.Open.{freshTotals}
 use Rattle.records.proofs.«open» as opening
 use Rattle.answers.specs.declared.step.Step.{Step}
 use Rattle.broken_records.specs.Broken.{lent}
@@ -121,8 +120,8 @@ pub record OpenSays (local remote segments clock : ℕ) (outgoing incoming heade
   -- 'Fresh': "stores empty", "queue empty", whatever the words hold, which an open is not lent
   pub empty : r .outcome ≡ Ready → (sent held queue : List ℕ)
       → seen (r .stream) (r .totals) (lent sent held queue outgoing incoming headers) ≡ model-stream.fresh local remote segments clock
-  -- a refused open hands out a stream of ceiling 0 and no totals, which every call refuses with 1, whatever it is lent
-  pub refused : (why : Refusal) → r .outcome ≡ Refused why → (r .stream .ids .segments ≡ 0) × (r .totals ≡ freshTotals)
+  -- a refused open hands out a stream with ids, clock and segment ceiling 0, which every call refuses with 1, whatever it is lent
+  pub refused : (why : Refusal) → r .outcome ≡ Refused why → numbersOn (r .stream) (r .totals) ≡ freshNumbers 0 0 0 0
   pub unusable : (why : Refusal) → r .outcome ≡ Refused why → (c : Call) (l : Lent) → refusedBy ((onRecords (answer c) (r .stream) (r .totals) l) .outcome) ≡ some 1
 
 -- look: "the next datagram (first entry left to take whose packet is there) is shown .., an empty part when nothing is left to take and
