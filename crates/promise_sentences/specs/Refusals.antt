@@ -41,10 +41,10 @@ FirstAnswers tests numbers o =
 abbrev pub NoOther : List ℕ → Outcome → Type 0
 NoOther numbers o = (n : ℕ) → refusedBy o ≡ some n → List·Memᴰ n numbers
 
--- where no test holds a call is not refused
 abbrev pub NoneHolds : List Test → Type 0
 NoneHolds tests = (k : ℕ) → getD tests k noTest .holds ≡ false
 
+-- and where no test holds it is not refused
 abbrev pub InOrder : List Test → List ℕ → Outcome → Type 0
 InOrder tests numbers o = FirstAnswers tests numbers o × NoOther numbers o × (NoneHolds tests → refusedBy o ≡ none)
 

@@ -68,5 +68,6 @@ LiveAnswer (writeCall bytes) e a = LiveWrite bytes e a
 LiveAnswer (deliverCall datagram clock) e a = deliverRefusal datagram clock e ≡ none → a .outcome ≡ Ready
 LiveAnswer (driveCall clock) e a = LiveDrive clock e a
 LiveAnswer (takeCall room) e a = LiveTake room e a
+-- "inventing inflight or totals"
 LiveAnswer (readCall room) e a = (a .end .totals ≡ e .totals) × (a .end .sender ≡ e .sender)
 LiveAnswer closeCall e a = Unit {0}
