@@ -42,4 +42,17 @@ examples =
       ended-by-peer = refl;
       closed-to-done = refl;
       sides-closed = refl;
+      closed-and-ended = refl;
+      backed-off = refl;
+      opened-at = refl;
+      ack-in-time = refl;
+      refused-deliveries = refl;
+      after-done = refl;
+      short-buffer = refl;
+      just-fits = refl;
+      empty-write = refl;
+      looks-past = refl;
+      end-before-data = refl;
+      segments = refl;
+      totals-wrap = refl;
     }

@@ -5,6 +5,8 @@
 use Prim.Native.Nat.{ℕ}
 use mathlib.Core.Path.{_≡_}
 use mathlib.Core.List.{List, [], _∷_, map}
+use mathlib.Core.Bool.{false}
+use mathlib.Core.Option.{none, some}
 use lib.ListN.{length, replicate}
 use Rattle.error.specs.declared.UdxError.the-variants as error
 use Rattle.error.specs.declared.Refusal.the-variants as refusal
@@ -12,7 +14,7 @@ use Rattle.error.specs.declared.Outcome.{Outcome}
 use Rattle.error.specs.declared.Outcome.the-variants.{Ready, Waiting, Done, Nothing, Refused}
 use Rattle.model.specs.Lists.{Bytes, on}
 use Rattle.model.specs.Slots.{get}
-use Rattle.model.specs.Stream.{packet, localClosed, bothClosed, End, fresh}
+use Rattle.model.specs.Stream.{packet, localClosed, bothClosed, Totals, End, fresh, withTotals}
 use Rattle.model.specs.Answers.{Answer}
 use Rattle.model.specs.Driving.{look}
 use Rattle.model.specs.Calls.{Call, writeCall, deliverCall, driveCall, takeCall, readCall, closeCall, answer, after}
@@ -64,6 +66,21 @@ sack = datagramOf 4 1 0 0 (1 ∷ 0 ∷ 0 ∷ 0 ∷ 2 ∷ 0 ∷ 0 ∷ 0 ∷ 0 ∷
 abbrev linesOf : List Call → End → List Line
 linesOf [] e = []
 linesOf (c ∷ cs) e = let a = answer c e in lineOf a ∷ linesOf cs (a .end)
+
+abbrev outcomeOf : Line → Outcome
+outcomeOf l = l .outcome
+
+-- all four running totals at 2^64 - 1
+abbrev nearlyWrapped : Totals
+nearlyWrapped =
+    record {
+      txPackets = 18_446_744_073_709_551_615;
+      txBytes = 18_446_744_073_709_551_615;
+      rxPackets = 18_446_744_073_709_551_615;
+      rxBytes = 18_446_744_073_709_551_615;
+      inflightPackets = 0;
+      inflightBytes = 0;
+    }
 
 abbrev countOf : Line → ℕ
 countOf l = l .count
@@ -271,3 +288,63 @@ pub record Examples : Type 0 where
   pub sides-closed :
       (after (deliverCall (endOf 2) 5 ∷ []) (fresh 2 1 10 0)) .ending .state ∷ (after (closeCall ∷ []) (fresh 1 2 10 0)) .ending .state ∷ []
       ≡ bothClosed ∷ localClosed ∷ []
+  -- "END closes both sides" of an end that has closed; a close of one that was ended "replaces any earlier error" and opens no side again
+  pub closed-and-ended :
+      (after (closeCall ∷ deliverCall (endOf 1) 5 ∷ []) (fresh 1 2 10 0)) .ending
+      ∷ (after (deliverCall (endOf 2) 5 ∷ closeCall ∷ []) (fresh 2 1 10 0)) .ending
+      ∷ []
+      ≡ record { error = error.UnexpectedEof; state = bothClosed; ended = false } ∷ record { error = error.ConnectionReset; state = bothClosed; ended = false } ∷ []
+  -- "deadline = now + 2 × rto"
+  pub backed-off : (after (taken (driveCall 1_000_000_000 ∷ [])) (fresh 1 2 10 0)) .timing .deadline ≡ 3_000_000_000
+  -- 'Fresh': "deadline now + rto"
+  pub opened-at : (fresh 1 2 10 7) .timing .deadline ∷ (fresh 1 2 10 7) .clocks .last ∷ [] ≡ 1_000_000_007 ∷ 7 ∷ []
+  -- settling comes before the timeouts: an ack that comes at the deadline is no timeout
+  pub ack-in-time : (after (taken (deliverCall (ackOf 1) 1_000_000_000 ∷ driveCall 1_000_000_000 ∷ [])) (fresh 1 2 10 0)) .sender .cwnd ≡ 4_200
+  -- refusals 7 to 12, and what is just let through
+  pub refused-deliveries :
+      map outcomeOf
+      (linesOf
+      (deliverCall (65 ∷ datagram) 5
+      ∷ deliverCall (endOf 1) 5
+      ∷ deliverCall (datagramOf 0 2 0 0 (replicate 1_381 65)) 5
+      ∷ deliverCall (datagramOf 0 2 0 1 []) 5
+      ∷ deliverCall (dataOf 32 aaa) 5
+      ∷ deliverCall (dataOf 31 aaa) 5
+      ∷ deliverCall (datagramOf 0 2 0 0 (replicate 1_380 65)) 5
+      ∷ [])
+      (fresh 2 1 10 0))
+      ≡ Refused refusal.BadHeader
+      ∷ Refused refusal.OtherStream
+      ∷ Refused refusal.LongPayload
+      ∷ Refused refusal.AckPastSeq
+      ∷ Refused refusal.PastIncoming
+      ∷ Ready
+      ∷ Ready
+      ∷ []
+  -- refusal 5, and the clock of the drive that answered done
+  pub after-done :
+      map outcomeOf
+      (linesOf (closeCall ∷ driveCall 0 ∷ takeCall 14_000 ∷ driveCall 7 ∷ deliverCall (ackOf 0) 7 ∷ closeCall ∷ driveCall 6 ∷ []) (fresh 1 2 10 0))
+      ≡ Ready ∷ Ready ∷ Ready ∷ Done ∷ Refused refusal.AfterDone ∷ Refused refusal.AfterDone ∷ Refused refusal.BadClock ∷ []
+  -- refusal 2 of a take
+  pub short-buffer : map outcomeOf (linesOf (takeCall 13_999 ∷ takeCall 14_000 ∷ []) (fresh 1 2 10 0)) ≡ Refused refusal.ShortBuffer ∷ Nothing ∷ []
+  -- a packet that just fits is finished
+  pub just-fits : linesOf (deliverCall (dataOf 0 aaa) 5 ∷ readCall 3 ∷ []) (fresh 2 1 10 0) ≡ line Ready 0 [] ∷ line Ready 3 aaa ∷ []
+  -- "an empty write with 0"
+  pub empty-write : linesOf (writeCall [] ∷ []) (fresh 1 2 10 0) ≡ line Ready 0 [] ∷ []
+  -- look shows the "first entry left to take whose packet is there"
+  pub looks-past : look (after (writeCall aaa ∷ writeCall bcd ∷ deliverCall (ackOf 1) 5 ∷ driveCall 5 ∷ []) (fresh 1 2 10 0)) ≡ dataOf 1 bcd
+  -- "count; SACK blocks; END; DATA; window": END is answered before its DATA is held
+  pub end-before-data :
+      linesOf (deliverCall (datagramOf 3 2 0 0 aaa) 5 ∷ driveCall 5 ∷ takeCall 14_000 ∷ []) (fresh 2 1 10 0)
+      ≡ line Ready 0 [] ∷ line Ready 0 [] ∷ line Ready 40 (datagramOf 2 1 0 0 (datagramOf 2 1 0 1 [])) ∷ []
+  -- "with segment size unless it has one entry"
+  pub segments :
+      (answer (takeCall 14_000) (after (writeCall aaa ∷ driveCall 0 ∷ []) (fresh 1 2 10 0))) .segment
+      ∷ (answer (takeCall 14_000) (after (writeCall aaa ∷ writeCall aaa ∷ driveCall 0 ∷ []) (fresh 1 2 10 0))) .segment
+      ∷ []
+      ≡ none ∷ some 23 ∷ []
+  -- "The four running totals wrap at 2^64"
+  pub totals-wrap :
+      (after (deliverCall datagram 5 ∷ []) (withTotals nearlyWrapped (fresh 2 1 10 0))) .totals
+      ≡ record { txPackets = 0; txBytes = 18_446_744_073_709_551_615; rxPackets = 0; rxBytes = 2; inflightPackets = 0; inflightBytes = 0 }
