@@ -13,9 +13,10 @@ use Rattle.error.specs.declared.Refusal.the-variants as refusal
 use Rattle.error.specs.declared.Outcome.{Outcome}
 use Rattle.error.specs.declared.Outcome.the-variants.{Ready, Waiting, Done, Nothing, Refused}
 use Rattle.model.specs.Lists.{Bytes, on}
-use Rattle.model.specs.Slots.{get}
-use Rattle.model.specs.Stream.{packet, localClosed, bothClosed, Totals, End, fresh, withTotals}
+use Rattle.model.specs.Slots.{noSlots, get}
+use Rattle.model.specs.Stream.{packet, localClosed, bothClosed, Sender, Totals, End, fresh, withSender, withTotals}
 use Rattle.model.specs.Answers.{Answer}
+use Rattle.model.specs.Sending.{openRefusal}
 use Rattle.model.specs.Driving.{look}
 use Rattle.model.specs.Calls.{Call, writeCall, deliverCall, driveCall, takeCall, readCall, closeCall, answer, after}
 
@@ -81,6 +82,10 @@ nearlyWrapped =
       inflightPackets = 0;
       inflightBytes = 0;
     }
+
+-- the next packet but one has no number
+abbrev beforeLast : Sender
+beforeLast = record { seq = 4_294_967_294; remoteAcked = 4_294_967_294; largestAck = 0; inflight = 0; cwnd = 2_800; outgoing = noSlots }
 
 abbrev countOf : Line → ℕ
 countOf l = l .count
@@ -297,7 +302,7 @@ pub record Examples : Type 0 where
   -- "deadline = now + 2 × rto"
   pub backed-off : (after (taken (driveCall 1_000_000_000 ∷ [])) (fresh 1 2 10 0)) .timing .deadline ≡ 3_000_000_000
   -- 'Fresh': "deadline now + rto"
-  pub opened-at : (fresh 1 2 10 7) .timing .deadline ∷ (fresh 1 2 10 7) .clocks .last ∷ [] ≡ 1_000_000_007 ∷ 7 ∷ []
+  pub opened-at : (fresh 1 2 10 7) .timing .deadline ∷ (fresh 1 2 10 7) .clocks .last ∷ (fresh 1 2 10 7) .clocks .drive ∷ [] ≡ 1_000_000_007 ∷ 7 ∷ 7 ∷ []
   -- settling comes before the timeouts: an ack that comes at the deadline is no timeout
   pub ack-in-time : (after (taken (deliverCall (ackOf 1) 1_000_000_000 ∷ driveCall 1_000_000_000 ∷ [])) (fresh 1 2 10 0)) .sender .cwnd ≡ 4_200
   -- refusals 7 to 12, and what is just let through
@@ -348,3 +353,27 @@ pub record Examples : Type 0 where
   pub totals-wrap :
       (after (deliverCall datagram 5 ∷ []) (withTotals nearlyWrapped (fresh 2 1 10 0))) .totals
       ≡ record { txPackets = 0; txBytes = 18_446_744_073_709_551_615; rxPackets = 0; rxBytes = 2; inflightPackets = 0; inflightBytes = 0 }
+  -- "segment ceiling 1 to 10", and refusal 4 of an open
+  pub opens :
+      openRefusal 0 0
+      ∷ openRefusal 1 0
+      ∷ openRefusal 10 0
+      ∷ openRefusal 11 0
+      ∷ openRefusal 1 1_152_921_504_606_846_975
+      ∷ openRefusal 1 1_152_921_504_606_846_976
+      ∷ []
+      ≡ some refusal.SegmentCeiling ∷ none ∷ none ∷ some refusal.SegmentCeiling ∷ none ∷ some refusal.BadClock ∷ []
+  -- 13: "Deliver finds 62 or more state packets queued, or close 63 or more"
+  pub state-packets-full :
+      map outcomeOf
+      (linesOf (deliverCall datagram 5 ∷ closeCall ∷ closeCall ∷ []) (after (replicate 62 (deliverCall datagram 5)) (fresh 2 1 10 0)))
+      ≡ Refused refusal.StateQueueFull ∷ Ready ∷ Refused refusal.StateQueueFull ∷ []
+  -- 17: "A write that isn't empty finds seq at 4,294,967,295"
+  pub last-number :
+      linesOf (writeCall aaa ∷ writeCall aaa ∷ writeCall [] ∷ []) (withSender beforeLast (fresh 1 2 10 0))
+      ≡ line Ready 3 [] ∷ line (Refused refusal.SeqExhausted) 0 [] ∷ line Ready 0 [] ∷ []
+  -- "TimedOut terminates as in terminate": a state packet with END is left to take
+  pub failed-with-end :
+      (answer (takeCall 14_000)
+      (after (taken (dueAt 1_000_000_000 (dueAt 3_000_000_000 (dueAt 5_000_000_000 (driveCall 7_000_000_000 ∷ []))))) (fresh 1 2 10 0))) .bytes
+      ≡ datagramOf 2 2 1 0 []
