@@ -1,5 +1,5 @@
 /*
- * The recorded session scripts (crates/replay/data/scripts.bin, named by the first argument) through udx.h: each line is held to the
+ * The recorded session scripts (crates/drill_replay/data/scripts.bin, named by the first argument) through udx.h: each line is held to the
  * original's answer. Names the first script that differs, and ends with status 1 then.
  */
 #include "udx.h"

@@ -127,7 +127,7 @@ impl Session {
 
 #[test]
 fn recorded_sessions() {
-    let file = concat!(env!("CARGO_MANIFEST_DIR"), "/../../crates/replay/data/scripts.bin");
+    let file = concat!(env!("CARGO_MANIFEST_DIR"), "/../../crates/drill_replay/data/scripts.bin");
     let file = std::fs::read(file).unwrap_or_else(|e| panic!("{file}: {e}"));
     let (mut rest, mut run, mut script_number) = (&file[..], 0, 0);
     while !rest.is_empty() {

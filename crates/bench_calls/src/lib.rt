@@ -105,7 +105,7 @@ pub extern "C" fn udx_bench_rules(
     held: &[u64; 32],
     queue: &[u64; 128],
 ) -> u32 {
-    if rules::ok_stream(stream(numbers), totals(numbers), sent, held, queue) {
+    if rules_stream::ok_stream(stream(numbers), totals(numbers), sent, held, queue) {
         return 1;
     }
     0
@@ -125,7 +125,7 @@ pub extern "C" fn udx_bench_write(
 ) -> usize {
     let s = stream(numbers);
     let t = totals(numbers);
-    let r = udx::write(s, t, sent, held, queue, outgoing, incoming, headers, bytes);
+    let r = udx::write::write(s, t, sent, held, queue, outgoing, incoming, headers, bytes);
     r.count
 }
 
@@ -143,7 +143,7 @@ pub extern "C" fn udx_bench_take(
 ) -> usize {
     let s = stream(numbers);
     let t = totals(numbers);
-    let r = udx::take(s, t, sent, held, queue, outgoing, incoming, headers, buf);
+    let r = udx::take::take(s, t, sent, held, queue, outgoing, incoming, headers, buf);
     r.count
 }
 
@@ -162,7 +162,7 @@ pub extern "C" fn udx_bench_deliver(
 ) -> u32 {
     let s = stream(numbers);
     let t = totals(numbers);
-    let r = udx::deliver(
+    let r = udx::deliver::deliver(
         s,
         t,
         sent,
@@ -198,7 +198,7 @@ pub extern "C" fn udx_bench_read(
 ) -> usize {
     let s = stream(numbers);
     let t = totals(numbers);
-    let r = udx::read(s, t, sent, held, queue, outgoing, incoming, headers, buf);
+    let r = udx::read::read(s, t, sent, held, queue, outgoing, incoming, headers, buf);
     r.count
 }
 
@@ -216,7 +216,7 @@ pub extern "C" fn udx_bench_drive(
 ) -> u64 {
     let s = stream(numbers);
     let t = totals(numbers);
-    let r = udx::drive(
+    let r = udx::drive::drive(
         s,
         t,
         sent,

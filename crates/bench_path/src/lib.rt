@@ -1,8 +1,6 @@
 // The path of a packet, for timing, as C functions: packets are written, driven, taken, delivered, read, acked and settled between two ends.
 // Each function makes all the calls of its kind in a round, so that little but the calls is timed. The order of `numbers` is that of
 // bench_calls.
-use answers::Step;
-use answers::nothing;
 use bench_calls::stream;
 use bench_calls::totals;
 use records::Queue;
@@ -10,6 +8,8 @@ use records::Receiver;
 use records::Sender;
 use records::Timing;
 use rtt::Nanos;
+use udx_steps::Step;
+use udx_steps::nothing;
 
 fn unpacked(numbers: &[u64; 24]) -> Step {
     let stream = stream(numbers);
@@ -47,7 +47,7 @@ fn write_one(
     let one = &bytes[at..end];
     let s = r.stream;
     let t = r.totals;
-    udx::write(s, t, sent, held, queue, outgoing, incoming, headers, one)
+    udx::write::write(s, t, sent, held, queue, outgoing, incoming, headers, one)
 }
 
 // Writes of one packet each, until one is not accepted.
@@ -102,7 +102,7 @@ fn drive(
     let s = r.stream;
     let t = r.totals;
     let c = Nanos(clock);
-    udx::drive(s, t, sent, held, queue, outgoing, incoming, headers, c)
+    udx::drive::drive(s, t, sent, held, queue, outgoing, incoming, headers, c)
 }
 
 // The next batch is put at this place of the buffer.
@@ -123,7 +123,7 @@ fn take_one(
     let rest = &mut buf[at..];
     let s = r.stream;
     let t = r.totals;
-    udx::take(s, t, sent, held, queue, outgoing, incoming, headers, rest)
+    udx::take::take(s, t, sent, held, queue, outgoing, incoming, headers, rest)
 }
 
 // No entry is left to take.
@@ -199,7 +199,7 @@ fn deliver_one(
     let s = r.stream;
     let t = r.totals;
     let c = Nanos(clock);
-    udx::deliver(s, t, sent, held, queue, outgoing, incoming, headers, one, c)
+    udx::deliver::deliver(s, t, sent, held, queue, outgoing, incoming, headers, one, c)
 }
 
 // The datagrams that are not lost are delivered: `lost` has a byte for each, 0 where it arrives, and 128 at most.
@@ -267,7 +267,7 @@ fn read_one(
     let part = &mut buf[at..end];
     let s = r.stream;
     let t = r.totals;
-    udx::read(s, t, sent, held, queue, outgoing, incoming, headers, part)
+    udx::read::read(s, t, sent, held, queue, outgoing, incoming, headers, part)
 }
 
 // Reads of one packet each, until one puts nothing.

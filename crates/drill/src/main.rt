@@ -2,15 +2,15 @@
 use constants::HEADER_STORE;
 use constants::INCOMING_STORE;
 use constants::OUTGOING_STORE;
-use drills::SPARE_HEADERS;
-use drills::SPARE_INCOMING;
-use drills::SPARE_OUTGOING;
-use kept::KEPT_STORE;
+use drill_turn::SPARE_HEADERS;
+use drill_turn::SPARE_INCOMING;
+use drill_turn::SPARE_OUTGOING;
 use libc::STDIN_FILENO;
 use libc::STDOUT_FILENO;
-use play::Ends;
-use play::SCRATCH;
-use text::LINE;
+use session_kept::KEPT_STORE;
+use session_text::LINE;
+use session_turn::Ends;
+use session_turn::SCRATCH;
 
 fn write_line(line: &[u8], len: usize) {
     if len <= line.len() {
@@ -38,7 +38,7 @@ fn run(
     let mut ends = fresh;
     let mut at: usize = 0;
     while at < script.len() {
-        let t = drills::run_one(
+        let t = drill_turn::run_one(
             ends,
             script,
             at,
@@ -78,7 +78,7 @@ fn main() {
     let mut spare_incoming = [0u8; SPARE_INCOMING];
     let mut spare_headers = [0u8; SPARE_HEADERS];
     let mut line = [0u8; LINE];
-    let ends = play::open_ends(
+    let ends = session_turn::open_ends(
         &outgoing_0,
         &incoming_0,
         &headers_0,

@@ -3,7 +3,7 @@ ghost use Prim.Native.Nat.{_+_, _*_, _≤_};
 ghost use lib.ListN.{length};
 use error::Outcome;
 use packet::Header;
-use text::LINE;
+use session_text::LINE;
 
 pub enum Name {
     Raw,
@@ -22,15 +22,15 @@ fn put_name(out: &mut [u8], name: Name) -> usize
     ensures { λ r. ⌜ r ≤ 7 ⌝ }
 {
     match name {
-        Name::Raw => text::put_word(out, 0, b"raw"),
-        Name::Base => text::put_word(out, 0, b"base"),
-        Name::Open => text::put_word(out, 0, b"open"),
-        Name::Room => text::put_word(out, 0, b"room"),
-        Name::Look => text::put_word(out, 0, b"look"),
-        Name::Numbers => text::put_word(out, 0, b"numbers"),
-        Name::Encode => text::put_word(out, 0, b"encode"),
-        Name::Decode => text::put_word(out, 0, b"decode"),
-        Name::Spoil => text::put_word(out, 0, b"spoil"),
+        Name::Raw => session_text::put_word(out, 0, b"raw"),
+        Name::Base => session_text::put_word(out, 0, b"base"),
+        Name::Open => session_text::put_word(out, 0, b"open"),
+        Name::Room => session_text::put_word(out, 0, b"room"),
+        Name::Look => session_text::put_word(out, 0, b"look"),
+        Name::Numbers => session_text::put_word(out, 0, b"numbers"),
+        Name::Encode => session_text::put_word(out, 0, b"encode"),
+        Name::Decode => session_text::put_word(out, 0, b"decode"),
+        Name::Spoil => session_text::put_word(out, 0, b"spoil"),
     }
 }
 
@@ -39,8 +39,8 @@ fn put_number(out: &mut [u8], at: usize, n: u64) -> usize
     requires { ⌜ at + 21 ≤ length (now out) ⌝ }
     ensures { λ r. ⌜ r ≤ at + 21 ⌝ }
 {
-    let a = text::put_space(out, at);
-    text::put_decimal(out, a, n)
+    let a = session_text::put_space(out, at);
+    session_text::put_decimal(out, a, n)
 }
 
 // Each number after a space.
@@ -62,9 +62,9 @@ fn put_last_bytes(out: &mut [u8], at: usize, bytes: &[u8]) -> usize
     requires { ⌜ at + 2 * length (now bytes) + 3 ≤ length (now out) ⌝ }
     ensures { λ r. ⌜ r ≤ at + 2 * length (now (bytes .entry)) + 3 ⌝ }
 {
-    let a = text::put_space(out, at);
-    let b = text::put_bytes(out, a, bytes);
-    text::put_end(out, b)
+    let a = session_text::put_space(out, at);
+    let b = session_text::put_bytes(out, a, bytes);
+    session_text::put_end(out, b)
 }
 
 // `NAME END OUTCOME 0`
@@ -72,8 +72,8 @@ pub fn put_line(out: &mut [u8; LINE], name: Name, end: u8, outcome: Outcome) -> 
     ensures { λ r. ⌜ r ≤ 8_400 ⌝ }
 {
     let a = put_name(out, name);
-    let b = text::put_answer(out, a, end, outcome, 0);
-    text::put_end(out, b)
+    let b = session_text::put_answer(out, a, end, outcome, 0);
+    session_text::put_end(out, b)
 }
 
 // `room END OUTCOME COUNT SEGMENT SUM`
@@ -88,9 +88,9 @@ pub fn put_room(
     ensures { λ r. ⌜ r ≤ 8_400 ⌝ }
 {
     let a = put_name(out, Name::Room);
-    let b = text::put_answer(out, a, end, outcome, count);
+    let b = session_text::put_answer(out, a, end, outcome, count);
     let c = put_numbers(out, b, &[segment, sum]);
-    text::put_end(out, c)
+    session_text::put_end(out, c)
 }
 
 // `look END ok COUNT BYTES`
@@ -99,7 +99,7 @@ pub fn put_look(out: &mut [u8; LINE], end: u8, shown: &[u8]) -> usize
     ensures { λ r. ⌜ r ≤ 8_400 ⌝ }
 {
     let a = put_name(out, Name::Look);
-    let b = text::put_answer(out, a, end, Outcome::Ready, shown.len() as u64);
+    let b = session_text::put_answer(out, a, end, Outcome::Ready, shown.len() as u64);
     put_last_bytes(out, b, shown)
 }
 
@@ -110,7 +110,7 @@ pub fn put_all_numbers(out: &mut [u8; LINE], end: u8, numbers: &[u64; 22]) -> us
     let a = put_name(out, Name::Numbers);
     let b = put_number(out, a, end as u64);
     let c = put_numbers(out, b, numbers);
-    text::put_end(out, c)
+    session_text::put_end(out, c)
 }
 
 // `encode OUTCOME COUNT BYTES`
@@ -119,8 +119,8 @@ pub fn put_encoded(out: &mut [u8; LINE], outcome: Outcome, bytes: &[u8]) -> usiz
     ensures { λ r. ⌜ r ≤ 8_400 ⌝ }
 {
     let a = put_name(out, Name::Encode);
-    let b = text::put_space(out, a);
-    let c = text::put_outcome(out, b, outcome);
+    let b = session_text::put_space(out, a);
+    let c = session_text::put_outcome(out, b, outcome);
     let d = put_number(out, c, bytes.len() as u64);
     put_last_bytes(out, d, bytes)
 }
@@ -129,8 +129,8 @@ fn put_decode_head(out: &mut [u8; LINE], outcome: Outcome) -> usize
     ensures { λ r. ⌜ r ≤ 100 ⌝ }
 {
     let a = put_name(out, Name::Decode);
-    let b = text::put_space(out, a);
-    text::put_outcome(out, b, outcome)
+    let b = session_text::put_space(out, a);
+    session_text::put_outcome(out, b, outcome)
 }
 
 // `decode ok TYPE OFFSET ID WINDOW SEQ ACK`
@@ -147,7 +147,7 @@ pub fn put_decoded(out: &mut [u8; LINE], h: Header) -> usize
     ];
     let a = put_decode_head(out, Outcome::Ready);
     let b = put_numbers(out, a, &fields);
-    text::put_end(out, b)
+    session_text::put_end(out, b)
 }
 
 // `decode 7`
@@ -155,5 +155,5 @@ pub fn put_not_decoded(out: &mut [u8; LINE], outcome: Outcome) -> usize
     ensures { λ r. ⌜ r ≤ 8_400 ⌝ }
 {
     let a = put_decode_head(out, outcome);
-    text::put_end(out, a)
+    session_text::put_end(out, a)
 }

@@ -3,10 +3,10 @@ ghost use Prim.Native.Nat.{_<_, _≤_};
 ghost use lib.ListN.{length};
 use packet::Header;
 use rtt::Nanos;
-use script::byte_at;
-use script::u16_at;
-use script::u32_at;
-use script::u64_at;
+use session_script::byte_at;
+use session_script::u16_at;
+use session_script::u32_at;
+use session_script::u64_at;
 
 pub enum Drill {
     Raw {

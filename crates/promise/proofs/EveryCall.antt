@@ -29,12 +29,12 @@ use Rattle.model.proofs.Lists.{All, by-test}
 use Rattle.model.proofs.Gate.{by-gate}
 use Rattle.model_rules.proofs.Invariant.{Left, atRest, toTake, Invariant}
 use Rattle.model_rules.proofs.InvariantCalls.{call-keeps}
-use Rattle.records.specs.declared.opening.Opened.{Opened}
+use Rattle.records.specs.declared.«open».Opened.{Opened}
 use Rattle.records.specs.Put.{put}
 use Rattle.records.specs.Seen.{Lent}
 use Rattle.records.specs.Open.{freshStream, freshTotals, storesTest, openWhy}
-use Rattle.answers.specs.declared.step.Step.{Step}
-use Rattle.answers.specs.Steps.{refusedStep}
+use Rattle.udx_steps.specs.declared.step.Step.{Step}
+use Rattle.udx_steps.specs.Steps.{refusedStep}
 use Rattle.udx.specs.Agree.{laidOut, onRecords, segmentOf, Agrees, Answers}
 use Rattle.udx.proofs.RefusalLaws.{refused-answers}
 use Rattle.promise.specs.Runs.{Records, seenOf, Request, toWrite, toDeliver, toDrive, toTake, toRead, toClose, Event, left, Did, OpenedBy, handedOut}

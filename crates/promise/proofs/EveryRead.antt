@@ -28,16 +28,16 @@ use Rattle.model.proofs.Slots.{no-some, some-inj}
 use Rattle.model.proofs.SlotSums.{slots-look}
 use Rattle.model_rules.proofs.Invariant.{HeldFacts, Invariant, invariant-rules}
 use Rattle.model_rules.proofs.InvariantCalls.{call-keeps}
-use Rattle.words.specs.declared.Held.{Held}
-use Rattle.words.specs.Words.{isHeld, heldOf, heldWord}
-use Rattle.words.proofs.WordLaws.{held-back, held-full}
+use Rattle.records_words.specs.declared.Held.{Held}
+use Rattle.records_words.specs.Words.{isHeld, heldOf, heldWord}
+use Rattle.records_words.proofs.WordLaws.{held-back, held-full}
 use Rattle.records.specs.Put.{put}
 use Rattle.records.specs.Cut.{incomingSlot}
 use Rattle.records.specs.Seen.{Lent, seen, seenIncoming, heldPayload}
 use Rattle.records.specs.Open.{storesTest}
 use Rattle.records.proofs.Cut.{cut-length}
 use Rattle.records.proofs.SeenIncoming.{heldIn, withHeld, get-incoming, get-past, offset-incoming}
-use Rattle.answers.specs.declared.step.Step.{Step}
+use Rattle.udx_steps.specs.declared.step.Step.{Step}
 use Rattle.udx.specs.Agree.{laidOut, onRecords, Agrees}
 use Rattle.udx.specs.Read.{readLent, Gives}
 use Rattle.promise.specs.Runs.{Records, seenOf}

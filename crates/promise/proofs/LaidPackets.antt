@@ -13,10 +13,10 @@ use borrow.Author.Tests.{le-leb, lt-ltb, eq-eqb, ne-eqb}
 use Rattle.model.specs.Lists.{Bytes, on}
 use Rattle.model.specs.Slots.{Slots, Numbered, ceiling}
 use Rattle.model.specs.Stream as model
-use Rattle.words.specs.declared.Sent.{Sent}
-use Rattle.words.specs.declared.Held.{Held}
-use Rattle.words.specs.Words.{sentOf, sentIn, sentWord, sentTime, isStored, heldOf, heldWord, isHeld}
-use Rattle.words.proofs.WordLaws.{sent-back, no-sent, held-back, no-held}
+use Rattle.records_words.specs.declared.Sent.{Sent}
+use Rattle.records_words.specs.declared.Held.{Held}
+use Rattle.records_words.specs.Words.{sentOf, sentIn, sentWord, sentTime, isStored, heldOf, heldWord, isHeld}
+use Rattle.records_words.proofs.WordLaws.{sent-back, no-sent, held-back, no-held}
 use Rattle.records.specs.Table.{table}
 use Rattle.records.specs.Cut.{cut, outgoingSlot, incomingSlot}
 use Rattle.records.specs.Seen.{numbered, packetOf, inSlot, outgoingSlotAt, seenOutgoing, heldPayload, incomingSlotAt, seenIncoming}

@@ -14,9 +14,9 @@ use Rattle.model.specs.Lists.{Bytes}
 use Rattle.model.specs.Rules.{states}
 use Rattle.model.specs.Stream as model
 use Rattle.model.proofs.Lists.{All}
-use Rattle.words.specs.declared.Entry.{Entry}
-use Rattle.words.specs.Words.{entryOf, entryWord}
-use Rattle.words.proofs.WordLaws.{entry-back}
+use Rattle.records_words.specs.declared.Entry.{Entry}
+use Rattle.records_words.specs.Words.{entryOf, entryWord}
+use Rattle.records_words.proofs.WordLaws.{entry-back}
 use Rattle.records.specs.declared.Queue.{Queue}
 use Rattle.records.specs.Put.{put}
 use Rattle.records.specs.Cut.{cut, headerSlot}

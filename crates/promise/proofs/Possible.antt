@@ -22,7 +22,7 @@ use Rattle.model_ends.specs.TwoEnds as two-ends
 use Rattle.model_ends.specs.TwoEnds.{isRefused, noHistory, Id}
 use Rattle.model_alive.specs.Traffic.{CarriesOnce, pieceCommands}
 use Rattle.model_alive.proofs.Traffic.{piece-carries}
-use Rattle.records.specs.declared.opening.Opened.{Opened}
+use Rattle.records.specs.declared.«open».Opened.{Opened}
 use Rattle.records.specs.Seen.{Lent}
 use Rattle.promise.specs.Runs.{seenOf, Request, toWrite, toDeliver, toDrive, toTake, toRead, toClose, callOf, Event, Did}
 use Rattle.promise.specs.TwoEndsOnRecords.{Side, Ends, Turn, onA, onB, turned, lastOf, Brings, OverALine, bothOpened}

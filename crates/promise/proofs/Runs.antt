@@ -26,12 +26,12 @@ use Rattle.model.proofs.Gate.{by-gate, clear}
 use Rattle.model_rules.proofs.Invariant.{Invariant}
 use Rattle.model_rules.proofs.InvariantCalls.{open-keeps, call-keeps}
 use Rattle.model_rules.proofs.NeverBroken.{never-broken}
-use Rattle.records.specs.declared.opening.Opened.{Opened}
+use Rattle.records.specs.declared.«open».Opened.{Opened}
 use Rattle.records.specs.Put.{put}
 use Rattle.records.specs.Seen.{Lent, seen}
 use Rattle.records.specs.Open.{freshStream, storesTest, openWhy, openedOutcome}
 use Rattle.records.proofs.SeenFresh.{seen-fresh, fresh-formed}
-use Rattle.answers.specs.declared.step.Step.{Step}
+use Rattle.udx_steps.specs.declared.step.Step.{Step}
 use Rattle.udx.specs.Agree.{laidOut, onRecords, segmentOf, Agrees, Answers}
 use Rattle.udx.specs.Look.{shownOf}
 use Rattle.promise.specs.Runs.{Records, seenOf, Request, toWrite, toDeliver, toDrive, toTake, toRead, toClose, callOf, Event, left, DidWith, Did, answerOf, Run, lastOf, callsOf, OpenedBy, handedOut, SameAsModel}

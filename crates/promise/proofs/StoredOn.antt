@@ -17,7 +17,7 @@ use Rattle.model.proofs.Gate.{and-left}
 use Rattle.model_rules.proofs.Invariant.{StoredIn, HeldFacts}
 use Rattle.model.proofs.Slots.{no-some, some-inj}
 use Rattle.model.proofs.SlotSums.{slots-look}
-use Rattle.words.specs.Words.{sentIn, isStored, isHeld}
+use Rattle.records_words.specs.Words.{sentIn, isStored, isHeld}
 use Rattle.records.specs.Cut.{cut, outgoingSlot, incomingSlot}
 use Rattle.records.specs.Seen.{packetOf, heldPayload, seenIncoming, seen}
 use Rattle.records.specs.Open.{storesTest}

@@ -9,7 +9,7 @@ use Rattle.model_ends.specs.TwoEnds as model
 use Rattle.model_ends.specs.TwoEnds.{noHistory, Id}
 use Rattle.model_rules.proofs.Invariant.{Invariant}
 use Rattle.model_ends.proofs.TwoEnds.{two-ends}
-use Rattle.records.specs.declared.opening.Opened.{Opened}
+use Rattle.records.specs.declared.«open».Opened.{Opened}
 use Rattle.records.specs.Seen.{Lent, seen}
 use Rattle.promise.specs.Runs.{OpenedBy}
 use Rattle.promise.specs.TwoEndsOnRecords.{Ends, Turn, onA, onB, turned, lastOf, OverALine, Carried, opened, bothOpened, TwoEndsOnRecords}

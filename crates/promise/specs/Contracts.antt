@@ -20,28 +20,28 @@ use denote.Triple.Clauses.{AtExit}
 use Rattle.packet.specs.Header.{decoded, Encodes}
 use Rattle.packet.proofs.header.Header.encode as encode
 use Rattle.packet.proofs.header.Header.from_bytes as decode
-use Rattle.blocks.specs.Reader.{readAt}
-use Rattle.blocks.proofs.next_at as next-at
-use Rattle.blocks.proofs.read_from as read-from
-use Rattle.blocks.proofs.BlockReader.new as new-reader
-use Rattle.blocks.proofs.BlockReader.moved as moved-reader
-use Rattle.blocks.proofs.BlockReader.next as next-block
+use Rattle.packet_blocks.specs.Reader.{readAt}
+use Rattle.packet_blocks.proofs.next_at as next-at
+use Rattle.packet_blocks.proofs.read_from as read-from
+use Rattle.packet_blocks.proofs.BlockReader.new as new-reader
+use Rattle.packet_blocks.proofs.BlockReader.moved as moved-reader
+use Rattle.packet_blocks.proofs.BlockReader.next as next-block
 use Rattle.model.specs.Lists.{Bytes}
 use Rattle.records.specs.declared.Stream.{Stream}
 use Rattle.records.specs.declared.Totals.{Totals}
 use Rattle.records.specs.Seen.{Lent}
 use Rattle.records.specs.Open.{Opens}
-use Rattle.records.proofs.«open» as opening
-use Rattle.answers.specs.declared.step.Step.{Step}
-use Rattle.broken_records.specs.Broken.{lent}
+use Rattle.records.proofs.«open».«open» as opening
+use Rattle.udx_steps.specs.declared.step.Step.{Step}
+use Rattle.rules_lent.specs.Broken.{lent}
 use Rattle.udx.specs.Look.{shownOf}
-use Rattle.udx.proofs.write as write
-use Rattle.udx.proofs.deliver as deliver
-use Rattle.udx.proofs.drive as drive
-use Rattle.udx.proofs.take as take
-use Rattle.udx.proofs.read as read
-use Rattle.udx.proofs.close as close
-use Rattle.udx.proofs.look as look
+use Rattle.udx.proofs.write.write as write
+use Rattle.udx.proofs.deliver.deliver as deliver
+use Rattle.udx.proofs.drive.drive as drive
+use Rattle.udx.proofs.take.take as take
+use Rattle.udx.proofs.read.read as read
+use Rattle.udx.proofs.close.close as close
+use Rattle.udx.proofs.look.look as look
 use Rattle.promise.specs.Runs.{Records, Request, toWrite, toDeliver, toDrive, toTake, toRead, toClose, Event, Did}
 
 abbrev pub recordsOf : Stream → Totals → Lent → Records
@@ -53,7 +53,7 @@ eventOf q r l buf = record { request = q; step = r; lent = l; buf = buf }
 module _ {M : Type 1} (𝓤 : URA M) (H : Heap 𝓤) (A : Atoms 𝓤) (mem : Memory → SProp 𝓤) (run : Routine → Fun 𝓤) where
   open Connectives (connectives 𝓤) using (⌜_⌝, ⊤ₛ)
 
-  -- udx/src/writing.rt
+  -- udx/src/write.rt
   abbrev pub Write : Type 2
   Write =
       (κs : Lfts 7) (x : Args write.signature κs) (r : Res write.signature κs) (y : AtExit write.ended κs)
@@ -65,7 +65,7 @@ module _ {M : Type 1} (𝓤 : URA M) (H : Heap 𝓤) (A : Atoms 𝓤) (mem : Mem
       ≡ ⌜ Did (recordsOf s t (lent (now sent) (now held) (now queue) (now outgoing) (now incoming) (now headers)))
       (eventOf (toWrite (now bytes)) r (lent (now sent′) (now held) (now queue′) (now outgoing′) (now incoming) (now headers)) []) ⌝)
 
-  -- udx/src/datagrams.rt
+  -- udx/src/deliver.rt
   abbrev pub Deliver : Type 2
   Deliver =
       (κs : Lfts 7) (x : Args deliver.signature κs) (r : Res deliver.signature κs) (y : AtExit deliver.ended κs)
@@ -77,7 +77,7 @@ module _ {M : Type 1} (𝓤 : URA M) (H : Heap 𝓤) (A : Atoms 𝓤) (mem : Mem
       ≡ ⌜ Did (recordsOf s t (lent (now sent) (now held) (now queue) (now outgoing) (now incoming) (now headers)))
       (eventOf (toDeliver (now datagram) (clock .0)) r (lent (now sent′) (now held′) (now queue′) (now outgoing) (now incoming′) (now headers′)) []) ⌝)
 
-  -- udx/src/driven.rt
+  -- udx/src/drive.rt
   abbrev pub Drive : Type 2
   Drive =
       (κs : Lfts 6) (x : Args drive.signature κs) (r : Res drive.signature κs) (y : AtExit drive.ended κs)
@@ -89,7 +89,7 @@ module _ {M : Type 1} (𝓤 : URA M) (H : Heap 𝓤) (A : Atoms 𝓤) (mem : Mem
       ≡ ⌜ Did (recordsOf s t (lent (now sent) (now held) (now queue) (now outgoing) (now incoming) (now headers)))
       (eventOf (toDrive (clock .0)) r (lent (now sent′) (now held) (now queue′) (now outgoing) (now incoming) (now headers′)) []) ⌝)
 
-  -- udx/src/batches.rt
+  -- udx/src/take.rt
   abbrev pub Take : Type 2
   Take =
       (κs : Lfts 7) (x : Args take.signature κs) (r : Res take.signature κs) (y : AtExit take.ended κs)
@@ -101,7 +101,7 @@ module _ {M : Type 1} (𝓤 : URA M) (H : Heap 𝓤) (A : Atoms 𝓤) (mem : Mem
       ≡ ⌜ Did (recordsOf s t (lent (now sent) (now held) (now queue) (now outgoing) (now incoming) (now headers)))
       (eventOf (toTake (now buf)) r (lent (now sent′) (now held) (now queue) (now outgoing) (now incoming) (now headers)) (now buf′)) ⌝)
 
-  -- udx/src/reading.rt
+  -- udx/src/read.rt
   abbrev pub Read : Type 2
   Read =
       (κs : Lfts 7) (x : Args read.signature κs) (r : Res read.signature κs) (y : AtExit read.ended κs)
@@ -113,7 +113,7 @@ module _ {M : Type 1} (𝓤 : URA M) (H : Heap 𝓤) (A : Atoms 𝓤) (mem : Mem
       ≡ ⌜ Did (recordsOf s t (lent (now sent) (now held) (now queue) (now outgoing) (now incoming) (now headers)))
       (eventOf (toRead (now buf)) r (lent (now sent) (now held′) (now queue) (now outgoing) (now incoming) (now headers)) (now buf′)) ⌝)
 
-  -- udx/src/closed.rt
+  -- udx/src/close.rt
   abbrev pub Close : Type 2
   Close =
       (κs : Lfts 6) (x : Args close.signature κs) (r : Res close.signature κs) (y : AtExit close.ended κs)
@@ -125,7 +125,7 @@ module _ {M : Type 1} (𝓤 : URA M) (H : Heap 𝓤) (A : Atoms 𝓤) (mem : Mem
       ≡ ⌜ Did (recordsOf s t (lent (now sent) (now held) (now queue) (now outgoing) (now incoming) (now headers)))
       (eventOf toClose r (lent (now sent) (now held) (now queue′) (now outgoing) (now incoming) (now headers′)) []) ⌝)
 
-  -- udx/src/looking.rt
+  -- udx/src/look.rt
   abbrev pub Look : Type 2
   Look =
       (κs : Lfts 5) (x : Args look.signature κs) (r : Res look.signature κs) (y : AtExit look.ended κs)
@@ -135,7 +135,7 @@ module _ {M : Type 1} (𝓤 : URA M) (H : Heap 𝓤) (A : Atoms 𝓤) (mem : Mem
       × (c .ensures tt r y
       ≡ ⌜ now r ≡ shownOf s t (lent (now sent) (now held) (now queue) (now outgoing) (now incoming) (now headers)) ⌝)
 
-  -- records/src/opening.rt
+  -- records/src/open.rt
   abbrev pub Open : Type 2
   Open =
       (κs : Lfts 3) (x : Args opening.signature κs) (r : Res opening.signature κs) (y : AtExit opening.ended κs)
@@ -162,7 +162,7 @@ module _ {M : Type 1} (𝓤 : URA M) (H : Heap 𝓤) (A : Atoms 𝓤) (mem : Mem
       let c = decode.clauses 𝓤 H A mem run κs x in
       (c .requires tt ≡ ⊤ₛ) × (c .ensures tt r y ≡ ⌜ r ≡ decoded (now buf) ⌝)
 
-  -- blocks/src/lib.rt, as the four below
+  -- packet_blocks/src/lib.rt, as the four below
   abbrev pub NextAt : Type 2
   NextAt =
       (κs : Lfts 1) (x : Args next-at.signature κs) (r : Res next-at.signature κs) (y : AtExit next-at.ended κs)

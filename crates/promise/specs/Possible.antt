@@ -13,7 +13,7 @@ use Rattle.model.specs.Lists.{Bytes, joined}
 use Rattle.model.specs.Sending.{openRefusal}
 use Rattle.model_ends.specs.TwoEnds as model
 use Rattle.model_ends.specs.TwoEnds.{Id}
-use Rattle.records.specs.declared.opening.Opened.{Opened}
+use Rattle.records.specs.declared.«open».Opened.{Opened}
 use Rattle.records.specs.Seen.{Lent}
 use Rattle.records.specs.Open.{storesTest}
 use Rattle.promise.specs.Runs.{Records, Request, toWrite, toDeliver, toDrive, toTake, toRead, callOf, Event, left, Did, OpenedBy, handedOut}

@@ -16,10 +16,10 @@ use Rattle.model.specs.Driving as model-out
 use Rattle.model.specs.Calls.{Call, writeCall, deliverCall, driveCall, takeCall, readCall, closeCall, answer, after}
 use Rattle.records.specs.declared.Stream.{Stream}
 use Rattle.records.specs.declared.Totals.{Totals}
-use Rattle.records.specs.declared.opening.Opened.{Opened}
+use Rattle.records.specs.declared.«open».Opened.{Opened}
 use Rattle.records.specs.Seen.{Lent, seen}
 use Rattle.records.specs.Open.{Opens}
-use Rattle.answers.specs.declared.step.Step.{Step}
+use Rattle.udx_steps.specs.declared.step.Step.{Step}
 use Rattle.udx.specs.Agree.{segmentOf, Answers}
 use Rattle.udx.specs.Look.{shownOf}
 use Rattle.udx.specs.Read.{Gives}

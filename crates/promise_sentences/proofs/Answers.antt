@@ -19,8 +19,8 @@ use Rattle.records.specs.Seen.{seenQueue, seen}
 use Rattle.records.proofs.SeenOutgoing.{outgoing-length}
 use Rattle.promise.specs.Runs.{Records, seenOf, callOf, callsOf, Event, Did, answerOf, Same}
 use Rattle.promise.proofs.Runs.{open-clear, same-as-model}
-use Rattle.flat.specs.Flat.{streamOf, totalsOf}
-use Rattle.udx_c.specs.declared.batches.FlatPart.{FlatPart}
+use Rattle.udx_c_numbers.specs.Flat.{streamOf, totalsOf}
+use Rattle.udx_c.specs.declared.look.FlatPart.{FlatPart}
 use Rattle.udx_c.specs.Shown.{ShownBy}
 use Rattle.promise_ways.specs.Calls.{Plain, PlainEvent, PlainDid, openedOf, recordsOf, eventOf, eventsOf}
 use Rattle.promise_ways.specs.FromC.{SameInC}

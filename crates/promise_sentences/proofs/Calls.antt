@@ -34,8 +34,8 @@ use Rattle.packet.specs.Header.{headerBytes, fields, decoded, Encodes}
 use Rattle.packet.specs.Blocks.{Span}
 use Rattle.packet.proofs.HeaderLaws.{header-length, encoded-long, encoded-short}
 use Rattle.packet.proofs.Blocks.{blocks-next, blocks-end, next-range, next-end}
-use Rattle.blocks.specs.declared.Next.{Next}
-use Rattle.blocks.specs.Reader.{placeAfter, readAt}
+use Rattle.packet_blocks.specs.declared.Next.{Next}
+use Rattle.packet_blocks.specs.Reader.{placeAfter, readAt}
 use Rattle.model.specs.Lists.{Bytes}
 use Rattle.model.specs.Slots.{noSlots}
 use Rattle.model.specs.Stream.{End, fresh}
@@ -52,14 +52,14 @@ use Rattle.model.proofs.Order.{refusals-in-order}
 use Rattle.model.proofs.Slots.{no-some}
 use Rattle.records.specs.declared.Stream.{Stream}
 use Rattle.records.specs.declared.Totals.{Totals}
-use Rattle.records.specs.declared.opening.Opened.{Opened}
+use Rattle.records.specs.declared.«open».Opened.{Opened}
 use Rattle.records.specs.Put.{put}
 use Rattle.records.specs.Seen.{Lent, seenQueue, seen}
 use Rattle.records.specs.Beside.{Beside}
 use Rattle.records.specs.Open.{freshStream, openWhy, openedStream, openedOutcome, Opens}
 use Rattle.records.proofs.SeenFresh.{seen-fresh}
-use Rattle.answers.specs.declared.step.Step.{Step}
-use Rattle.broken_records.specs.Broken.{lent}
+use Rattle.udx_steps.specs.declared.step.Step.{Step}
+use Rattle.rules_lent.specs.Broken.{lent}
 use Rattle.udx.specs.Agree.{laidOut, onRecords, Answers}
 use Rattle.udx.specs.Look.{shownOf}
 use Rattle.udx.specs.Read.{Gives}

@@ -34,27 +34,27 @@ use Rattle.model.proofs.Slots.{no-some, some-inj}
 use Rattle.model_rules.proofs.InvariantCalls.{or-false}
 use Rattle.records.specs.declared.Stream.{Stream}
 use Rattle.records.specs.declared.Totals.{Totals}
-use Rattle.records.specs.declared.opening.Opened.{Opened}
+use Rattle.records.specs.declared.«open».Opened.{Opened}
 use Rattle.records.specs.Seen.{Lent}
 use Rattle.records.specs.Beside.{Beside}
-use Rattle.answers.specs.declared.step.Step.{Step}
+use Rattle.udx_steps.specs.declared.step.Step.{Step}
 use Rattle.udx.specs.Agree.{onRecords, Agrees, Answers}
 use Rattle.udx.specs.Read.{Gives}
 use Rattle.udx.specs.Take.{Hands}
-use Rattle.flat.specs.declared.structs.FlatStream.{FlatStream}
-use Rattle.flat.specs.declared.structs.FlatTotals.{FlatTotals}
-use Rattle.flat.specs.declared.structs.FlatStep.{FlatStep}
-use Rattle.flat.specs.Bytes.{errorByte, errorOf, stateByte, stateOf, isStrange, outcomeByte, refusalByte}
-use Rattle.flat.specs.Flat.{streamOf, totalsOf, flatStream, flatTotals, flatStep, flatOpened, brokenStep}
-use Rattle.flat.proofs.RoundTrip.{comes-back}
-use Rattle.udx_c.specs.declared.batches.FlatPart.{FlatPart}
-use Rattle.udx_c.specs.declared.codec.FlatHeader.{FlatHeader}
-use Rattle.udx_c.specs.declared.codec.FlatDecoded.{FlatDecoded}
+use Rattle.udx_c_numbers.specs.declared.structs.FlatStream.{FlatStream}
+use Rattle.udx_c_numbers.specs.declared.structs.FlatTotals.{FlatTotals}
+use Rattle.udx_c_numbers.specs.declared.structs.FlatStep.{FlatStep}
+use Rattle.udx_c_numbers.specs.Bytes.{errorByte, errorOf, stateByte, stateOf, isStrange, outcomeByte, refusalByte}
+use Rattle.udx_c_numbers.specs.Flat.{streamOf, totalsOf, flatStream, flatTotals, flatStep, flatOpened, brokenStep}
+use Rattle.udx_c_numbers.proofs.RoundTrip.{comes-back}
+use Rattle.udx_c.specs.declared.look.FlatPart.{FlatPart}
+use Rattle.udx_c.specs.declared.header.FlatHeader.{FlatHeader}
+use Rattle.udx_c.specs.declared.header.FlatDecoded.{FlatDecoded}
 use Rattle.udx_c.specs.Coded.{headerOf, flatHeader, flatDecoded, FlatEncodes}
 use Rattle.udx_c.specs.Crosses.{Crosses, FlatOpens}
 use Rattle.udx_c.specs.Shown.{flatPart, storeOf, bytesOf, Looks}
 use Rattle.udx_c.proofs.ShownLaws.{looks-shown}
-use Rattle.places.specs.Place.{lookedPart}
+use Rattle.udx_c_part.specs.Place.{lookedPart}
 use Rattle.promise_ways.proofs.Contracts.{contracts-of-c}
 use Rattle.promise_ways.specs.Calls.{outcomeOf, openedOf}
 use Rattle.promise_ways.proofs.FromC.{opened-back, step-known, opened-known, broken-is}

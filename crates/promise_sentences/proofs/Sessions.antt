@@ -13,9 +13,9 @@ use contract.Monad.{Fun}
 use contract.Notation.{Connectives, connectives}
 use Rattle.error.specs.declared.Outcome.the-variants.{Ready}
 use Rattle.model.specs.Lists.{Bytes}
-use Rattle.records.specs.declared.opening.Opened.{Opened}
+use Rattle.records.specs.declared.«open».Opened.{Opened}
 use Rattle.records.specs.Open.{storesTest, openWhy, Opens}
-use Rattle.play.proofs.Contracts.{fresh-end, runs-one, opens-ends}
+use Rattle.session_turn.proofs.Contracts.{fresh-end, runs-one, opens-ends}
 use Rattle.promise_sentences.specs.Calls.{Promises}
 use Rattle.promise_sentences.specs.Sessions.{SessionSentences}
 use Rattle.promise_sentences.proofs.Calls.{promises-by, promises, opens-fresh}

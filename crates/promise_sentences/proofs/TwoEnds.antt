@@ -17,7 +17,7 @@ use Rattle.model_ends.proofs.TwoEnds.{two-ends}
 use Rattle.promise.specs.Runs.{Records, seenOf}
 use Rattle.promise.specs.TwoEndsOnRecords as records
 use Rattle.promise.proofs.TwoEndsOnRecords.{two-ends-on-records}
-use Rattle.flat.specs.Flat.{streamOf}
+use Rattle.udx_c_numbers.specs.Flat.{streamOf}
 use Rattle.promise_ways.specs.FromC.{PlainSide, sideOf, CarriedInC}
 use Rattle.promise_ways.specs.Mixed.{CarriedEitherWay}
 use Rattle.promise_ways.proofs.FromC.{two-ends-from-c}

@@ -21,16 +21,16 @@ use Rattle.model.specs.Driving.{firstThere}
 use Rattle.model.specs.Calls.{Call, answer, after}
 use Rattle.records.specs.declared.Stream.{Stream}
 use Rattle.records.specs.declared.Totals.{Totals}
-use Rattle.records.specs.declared.opening.Opened.{Opened}
+use Rattle.records.specs.declared.«open».Opened.{Opened}
 use Rattle.records.specs.Seen.{seenState, Lent}
 use Rattle.udx.specs.Agree.{segmentOf}
 use Rattle.udx.specs.Look.{shownOf}
 use Rattle.promise.specs.Runs.{Records, seenOf, callOf, Event, left, Did, putBy, Run, lastOf, callsOf, OpenedBy, handedOut}
-use Rattle.flat.specs.declared.structs.FlatStream.{FlatStream}
-use Rattle.flat.specs.declared.structs.FlatTotals.{FlatTotals}
-use Rattle.flat.specs.declared.structs.FlatStep.{FlatStep}
-use Rattle.flat.specs.Bytes.{errorOf, stateOf}
-use Rattle.udx_c.specs.declared.batches.FlatPart.{FlatPart}
+use Rattle.udx_c_numbers.specs.declared.structs.FlatStream.{FlatStream}
+use Rattle.udx_c_numbers.specs.declared.structs.FlatTotals.{FlatTotals}
+use Rattle.udx_c_numbers.specs.declared.structs.FlatStep.{FlatStep}
+use Rattle.udx_c_numbers.specs.Bytes.{errorOf, stateOf}
+use Rattle.udx_c.specs.declared.look.FlatPart.{FlatPart}
 use Rattle.udx_c.specs.Shown.{storeOf, bytesOf, Looks}
 use Rattle.promise_ways.specs.Calls.{Plain, PlainEvent, PlainDid, PlainRun, plainLeft, plainLast, plainOpened, outcomeOf, recordsOf, eventsOf, OpenedInC}
 use Rattle.promise_ways.specs.Mixed.{StandsFor, Mixed, asEvent, asEvents, MixedDid, OpenedEither, MixedRun}

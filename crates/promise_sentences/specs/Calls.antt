@@ -31,12 +31,12 @@ use Rattle.packet.specs.Header.{headerBytes, fields}
 use Rattle.packet.specs.LittleEndian.{word}
 use Rattle.packet.proofs.header.Header.encode as encode
 use Rattle.packet.proofs.header.Header.from_bytes as decode
-use Rattle.blocks.specs.declared.Next.{Next}
-use Rattle.blocks.proofs.next_at as next-at
-use Rattle.blocks.proofs.read_from as read-from
-use Rattle.blocks.proofs.BlockReader.new as new-reader
-use Rattle.blocks.proofs.BlockReader.moved as moved-reader
-use Rattle.blocks.proofs.BlockReader.next as next-block
+use Rattle.packet_blocks.specs.declared.Next.{Next}
+use Rattle.packet_blocks.proofs.next_at as next-at
+use Rattle.packet_blocks.proofs.read_from as read-from
+use Rattle.packet_blocks.proofs.BlockReader.new as new-reader
+use Rattle.packet_blocks.proofs.BlockReader.moved as moved-reader
+use Rattle.packet_blocks.proofs.BlockReader.next as next-block
 use Rattle.model.specs.Lists.{Bytes}
 use Rattle.model.specs.Stream as model-stream
 use Rattle.model.specs.Answers.{Answer}
@@ -48,20 +48,20 @@ use Rattle.model.specs.Calls.{Call, answer}
 use Rattle.model.specs.Order.{refusedBy, undecodedBy}
 use Rattle.records.specs.declared.Stream.{Stream}
 use Rattle.records.specs.declared.Totals.{Totals}
-use Rattle.records.specs.declared.opening.Opened.{Opened}
+use Rattle.records.specs.declared.«open».Opened.{Opened}
 use Rattle.records.specs.Seen.{Lent, seen}
 use Rattle.records.specs.Beside.{Beside}
-use Rattle.records.proofs.«open» as opening
-use Rattle.answers.specs.declared.step.Step.{Step}
-use Rattle.broken_records.specs.Broken.{lent}
+use Rattle.records.proofs.«open».«open» as opening
+use Rattle.udx_steps.specs.declared.step.Step.{Step}
+use Rattle.rules_lent.specs.Broken.{lent}
 use Rattle.udx.specs.Agree.{laidOut, onRecords, Agrees}
-use Rattle.udx.proofs.write as write
-use Rattle.udx.proofs.deliver as deliver
-use Rattle.udx.proofs.drive as drive
-use Rattle.udx.proofs.take as take-call
-use Rattle.udx.proofs.read as read
-use Rattle.udx.proofs.close as close
-use Rattle.udx.proofs.look as look
+use Rattle.udx.proofs.write.write as write
+use Rattle.udx.proofs.deliver.deliver as deliver
+use Rattle.udx.proofs.drive.drive as drive
+use Rattle.udx.proofs.take.take as take-call
+use Rattle.udx.proofs.read.read as read
+use Rattle.udx.proofs.close.close as close
+use Rattle.udx.proofs.look.look as look
 use Rattle.promise_sentences.specs.Answers.{Numbers, numbersOn, Shows}
 use Rattle.promise_sentences.specs.Refusals.{InOrder, openTestsOn}
 

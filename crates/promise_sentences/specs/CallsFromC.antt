@@ -25,17 +25,17 @@ use Rattle.model.specs.Receiving as model-in
 use Rattle.model.specs.Driving as model-out
 use Rattle.records.specs.Seen.{Lent, seen}
 use Rattle.records.specs.Beside.{Beside}
-use Rattle.broken_records.specs.Broken.{lent}
+use Rattle.rules_lent.specs.Broken.{lent}
 use Rattle.udx.specs.Agree.{onRecords, segmentOf}
-use Rattle.flat.specs.declared.structs.FlatStream.{FlatStream}
-use Rattle.flat.specs.declared.structs.FlatTotals.{FlatTotals}
-use Rattle.flat.specs.declared.structs.FlatStep.{FlatStep}
-use Rattle.flat.specs.Bytes.{isStrange, outcomeByte, refusalByte}
-use Rattle.flat.specs.Flat.{streamOf, totalsOf}
-use Rattle.udx_c.specs.declared.codec.FlatDecoded.{FlatDecoded}
+use Rattle.udx_c_numbers.specs.declared.structs.FlatStream.{FlatStream}
+use Rattle.udx_c_numbers.specs.declared.structs.FlatTotals.{FlatTotals}
+use Rattle.udx_c_numbers.specs.declared.structs.FlatStep.{FlatStep}
+use Rattle.udx_c_numbers.specs.Bytes.{isStrange, outcomeByte, refusalByte}
+use Rattle.udx_c_numbers.specs.Flat.{streamOf, totalsOf}
+use Rattle.udx_c.specs.declared.header.FlatDecoded.{FlatDecoded}
 use Rattle.udx_c.specs.Coded.{headerOf, flatHeader}
 use Rattle.udx_c.specs.Layout.{streamFields, totalsFields, stepFields, countFrom}
-use Rattle.places.specs.Place.{lookedPart}
+use Rattle.udx_c_part.specs.Place.{lookedPart}
 use Rattle.udx_c.specs.Shown.{flatPart, storeOf, bytesOf}
 use Rattle.udx_c.proofs.udx_write as write
 use Rattle.udx_c.proofs.udx_deliver as deliver

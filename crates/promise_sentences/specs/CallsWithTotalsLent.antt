@@ -20,15 +20,15 @@ use Rattle.model.specs.Sending as model
 use Rattle.model.specs.Receiving as model-in
 use Rattle.model.specs.Driving as model-out
 use Rattle.records.specs.Beside.{Beside}
-use Rattle.broken_records.specs.Broken.{lent}
+use Rattle.rules_lent.specs.Broken.{lent}
 use Rattle.udx.specs.Agree.{onRecords}
-use Rattle.calls.specs.Whole.{whole}
-use Rattle.calls.proofs.write as write
-use Rattle.calls.proofs.deliver as deliver
-use Rattle.calls.proofs.drive as drive
-use Rattle.calls.proofs.take as take
-use Rattle.calls.proofs.read as read
-use Rattle.calls.proofs.close as close
+use Rattle.udx_lent.specs.Whole.{whole}
+use Rattle.udx_lent.proofs.write.write as write
+use Rattle.udx_lent.proofs.deliver.deliver as deliver
+use Rattle.udx_lent.proofs.drive.drive as drive
+use Rattle.udx_lent.proofs.take.take as take
+use Rattle.udx_lent.proofs.read.read as read
+use Rattle.udx_lent.proofs.close.close as close
 use Rattle.promise_sentences.specs.Calls.{Equations, WhereRefused, Puts, Promises}
 
 module _ {M : Type 1} (𝓤 : URA M) (H : Heap 𝓤) (A : Atoms 𝓤) (mem : Memory → SProp 𝓤) (run : Routine → Fun 𝓤) where

@@ -19,14 +19,14 @@ use Rattle.model.specs.Receiving.{read}
 use Rattle.model.specs.Calls.{Call, writeCall, deliverCall, driveCall, takeCall, readCall, closeCall, answer, after}
 use Rattle.model_ends.specs.TwoEnds as model
 use Rattle.model_ends.specs.TwoEnds.{History, unreadInOrder, Id}
-use Rattle.records.specs.declared.opening.Opened.{Opened}
+use Rattle.records.specs.declared.«open».Opened.{Opened}
 use Rattle.records.specs.Seen.{Lent}
 use Rattle.records.specs.Open.{Opens}
-use Rattle.answers.specs.declared.step.Step.{Step}
+use Rattle.udx_steps.specs.declared.step.Step.{Step}
 use Rattle.promise.specs.Runs as runs
 use Rattle.promise.specs.Runs.{Records, Request, toWrite, toDeliver, toDrive, toTake, toRead, toClose, callOf, Event, left, Did, putBy, Run, callsOf, OpenedBy}
 use Rattle.promise.specs.TwoEndsOnRecords.{noted, Ends, Turn, onA, onB, turned, lastOf, OverALine, ReadsAlone}
-use Rattle.flat.specs.declared.structs.FlatStep.{FlatStep}
+use Rattle.udx_c_numbers.specs.declared.structs.FlatStep.{FlatStep}
 use Rattle.udx_c.specs.Crosses.{FlatOpens}
 use Rattle.promise_ways.specs.Calls.{Plain, PlainEvent, PlainDid, PlainRun, plainLeft, plainLast, stepOf, openedOf, eventOf, eventsOf, OpenedInC}
 use Rattle.promise_ways.specs.FromC as c

@@ -25,7 +25,7 @@ use Rattle.model.specs.Receiving.{deliverTests, deliver, readNext, readTests, r
 use Rattle.model.specs.Driving as model
 use Rattle.model.specs.Driving.{driveTests, drive, takeTests}
 use Rattle.model.specs.Order.{number, refusedBy, undecodedBy}
-use Rattle.records.specs.declared.opening.Opened.{Opened}
+use Rattle.records.specs.declared.«open».Opened.{Opened}
 use Rattle.records.specs.Open.{storesTest, openWhy, Opens}
 
 -- past the end of a list no test holds

@@ -1,5 +1,5 @@
 -- 'The session program' in 01's sentences: the ends that it runs and a turn of it, from the contracts of `fresh_end`, `open_ends` and
--- `run_one` word for word (`FreshEnd`, `OpensEnds` and `RunOne`, play/proofs/Contracts.antt). Statements only: the proofs are proofs/Sessions.antt. Assumes nothing.
+-- `run_one` word for word (`FreshEnd`, `OpensEnds` and `RunOne`, session_turn/proofs/Contracts.antt). Statements only: the proofs are proofs/Sessions.antt. Assumes nothing.
 use Prim.Native.Nat.{_≤_, _<_}
 use mathlib.Core.Path.{_≡_}
 use mathlib.Core.List.{[]}
@@ -18,13 +18,13 @@ use denote.Triple.Entry.{Args, Res}
 use denote.Triple.Clauses.{AtExit}
 use Rattle.model.specs.Lists.{Bytes}
 use Rattle.records.specs.Open.{storesTest}
-use Rattle.kept.specs.Kept.{keptOf}
-use Rattle.ends.proofs.«fresh_end» as fresh
-use Rattle.commands.specs.Acts.{Laid}
-use Rattle.play.specs.Session.{turn}
-use Rattle.play.specs.Turned.{lends, sidesOf}
-use Rattle.play.proofs.«open_ends» as open-ends
-use Rattle.play.proofs.«run_one» as run-one
+use Rattle.session_kept.specs.Kept.{keptOf}
+use Rattle.session_ends.proofs.«fresh_end» as fresh
+use Rattle.session_commands.specs.Acts.{Laid}
+use Rattle.session_turn.specs.Session.{turn}
+use Rattle.session_turn.specs.Turned.{lends, sidesOf}
+use Rattle.session_turn.proofs.«open_ends» as open-ends
+use Rattle.session_turn.proofs.«run_one» as run-one
 use Rattle.promise_sentences.specs.Answers.{numbersOn}
 use Rattle.promise_sentences.specs.Calls.{freshNumbers, Promises}
 

@@ -13,12 +13,12 @@ use Rattle.model.specs.Stream.{Packet, Held, End}
 use Rattle.model.specs.Sending.{openRefusal}
 use Rattle.model_ends.specs.TwoEnds as model
 use Rattle.model_ends.specs.TwoEnds.{unreadInOrder, Id}
-use Rattle.records.specs.declared.opening.Opened.{Opened}
+use Rattle.records.specs.declared.«open».Opened.{Opened}
 use Rattle.records.specs.Seen.{Lent}
 use Rattle.promise.specs.Runs.{Records, seenOf, Event, OpenedBy}
 use Rattle.promise.specs.TwoEndsOnRecords as records
 use Rattle.promise.specs.TwoEndsOnRecords.{ReadsAlone, putByReads}
-use Rattle.flat.specs.declared.structs.FlatStep.{FlatStep}
+use Rattle.udx_c_numbers.specs.declared.structs.FlatStep.{FlatStep}
 use Rattle.promise_ways.specs.Calls.{Plain, PlainEvent, recordsOf, eventsOf, OpenedInC}
 use Rattle.promise_ways.specs.FromC.{PlainSide, PlainTurn, plainLastOf, PlainOverALine, bothOpenedInC, PlainReadsAlone}
 use Rattle.promise_ways.specs.Mixed.{Mixed, asEvents, OpenedEither, MixedTurn, asTurns, MixedOverALine, MixedReadsAlone}

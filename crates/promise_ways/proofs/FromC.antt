@@ -16,19 +16,19 @@ use Rattle.model.specs.Stream.{fresh}
 use Rattle.model.specs.Calls.{after}
 use Rattle.records.specs.declared.Stream.{Stream}
 use Rattle.records.specs.declared.Totals.{Totals}
-use Rattle.records.specs.declared.opening.Opened.{Opened}
+use Rattle.records.specs.declared.«open».Opened.{Opened}
 use Rattle.records.specs.Seen.{Lent}
-use Rattle.answers.specs.declared.step.Step.{Step}
+use Rattle.udx_steps.specs.declared.step.Step.{Step}
 use Rattle.promise.specs.Runs.{Request, toWrite, toDeliver, toDrive, toTake, toRead, toClose, DidWith, Run, lastOf, callsOf, OpenedBy, handedOut, Same}
 use Rattle.promise.specs.TwoEndsOnRecords as records
 use Rattle.promise.proofs.Runs.{same-as-model}
 use Rattle.promise.proofs.TwoEndsOnRecords.{two-ends-on-records}
-use Rattle.flat.specs.declared.structs.FlatStream.{FlatStream}
-use Rattle.flat.specs.declared.structs.FlatTotals.{FlatTotals}
-use Rattle.flat.specs.declared.structs.FlatStep.{FlatStep}
-use Rattle.flat.specs.Bytes.{isStrange, outcomeByte, refusalByte}
-use Rattle.flat.specs.Flat.{streamOf, totalsOf, flatStep, flatOpened}
-use Rattle.flat.proofs.RoundTrip.{comes-back}
+use Rattle.udx_c_numbers.specs.declared.structs.FlatStream.{FlatStream}
+use Rattle.udx_c_numbers.specs.declared.structs.FlatTotals.{FlatTotals}
+use Rattle.udx_c_numbers.specs.declared.structs.FlatStep.{FlatStep}
+use Rattle.udx_c_numbers.specs.Bytes.{isStrange, outcomeByte, refusalByte}
+use Rattle.udx_c_numbers.specs.Flat.{streamOf, totalsOf, flatStep, flatOpened}
+use Rattle.udx_c_numbers.proofs.RoundTrip.{comes-back}
 use Rattle.udx_c.specs.Crosses.{Called}
 use Rattle.udx_c.proofs.ShownLaws.{looks-shown}
 use Rattle.promise_ways.specs.Calls.{

@@ -4,7 +4,7 @@ use Prim.Native.Nat.{ℕ}
 use mathlib.Core.Path.{refl, ap, _∙_, subst}
 use mathlib.Core.List.{List, [], _∷_}
 use mathlib.Core.Logic.{inl, inr}
-use Rattle.records.specs.declared.opening.Opened.{Opened}
+use Rattle.records.specs.declared.«open».Opened.{Opened}
 use Rattle.records.specs.Seen.{Lent}
 use Rattle.udx.specs.Look.{shownOf}
 use Rattle.promise.specs.Runs.{Records, left, Did, Run, OpenedBy}
@@ -12,7 +12,7 @@ use Rattle.promise.specs.TwoEndsOnRecords as records
 use Rattle.promise.specs.TwoEndsOnRecords.{Side, Ends, turned, OverALine, ReadsAlone, Carried}
 use Rattle.promise.proofs.Runs.{same-as-model}
 use Rattle.promise.proofs.TwoEndsOnRecords.{two-ends-on-records}
-use Rattle.flat.proofs.RoundTrip.{comes-back}
+use Rattle.udx_c_numbers.proofs.RoundTrip.{comes-back}
 use Rattle.udx_c.proofs.ShownLaws.{looks-shown}
 use Rattle.promise_ways.specs.Mixed.{
   Mixed,

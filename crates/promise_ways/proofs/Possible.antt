@@ -10,9 +10,9 @@ use Rattle.model.specs.Lists.{Bytes, joined}
 use Rattle.model_ends.specs.TwoEnds.{noHistory}
 use Rattle.records.specs.declared.Stream.{Stream}
 use Rattle.records.specs.declared.Totals.{Totals}
-use Rattle.records.specs.declared.opening.Opened.{Opened}
+use Rattle.records.specs.declared.«open».Opened.{Opened}
 use Rattle.records.specs.Seen.{Lent}
-use Rattle.answers.specs.declared.step.Step.{Step}
+use Rattle.udx_steps.specs.declared.step.Step.{Step}
 use Rattle.promise.specs.Runs.{Records, Request, toWrite, toDeliver, toDrive, toTake, toRead, toClose, Event, left, DidWith, Did, OpenedBy, handedOut}
 use Rattle.promise.specs.TwoEndsOnRecords as records
 use Rattle.promise.specs.Possible.{Makes, Asked, ofA, ofB, askedBy, Traffic}
@@ -21,9 +21,9 @@ use Rattle.promise.proofs.Line.{Laid, BothLaid, call-laid}
 use Rattle.promise.proofs.Runs.{open-stands}
 use Rattle.promise.proofs.Possible.{every-line, possible}
 use Rattle.promise.proofs.ReadOut.{Reads, reads-at, stands-laid}
-use Rattle.flat.specs.declared.structs.FlatStep.{FlatStep}
-use Rattle.flat.specs.Bytes.{isStrange}
-use Rattle.flat.specs.Flat.{streamOf, totalsOf, flatStep, flatOpened}
+use Rattle.udx_c_numbers.specs.declared.structs.FlatStep.{FlatStep}
+use Rattle.udx_c_numbers.specs.Bytes.{isStrange}
+use Rattle.udx_c_numbers.specs.Flat.{streamOf, totalsOf, flatStep, flatOpened}
 use Rattle.udx_c.specs.Crosses.{Crosses}
 use Rattle.promise_ways.specs.Calls.{Plain, PlainEvent, PlainDidWith, PlainDid, plainLeft, plainOpened, stepOf, openedOf, recordsOf, eventOf, OpenedInC}
 use Rattle.promise_ways.specs.FromC.{PlainSide, sideOf, PlainEnds, PlainTurn, onA, onB, plainTurned, plainLastOf, PlainOverALine, openedSide, bothOpenedInC, PlainReadsAlone, CarriedInC}

@@ -21,11 +21,11 @@ use denote.Triple.Clauses.{AtExit}
 use Rattle.packet.specs.Header.{decoded}
 use Rattle.model.specs.Lists.{Bytes}
 use Rattle.records.specs.Seen.{Lent}
-use Rattle.broken_records.specs.Broken.{lent}
+use Rattle.rules_lent.specs.Broken.{lent}
 use Rattle.promise.specs.Runs.{Request, toWrite, toDeliver, toDrive, toTake, toRead, toClose}
-use Rattle.flat.specs.declared.structs.FlatStream.{FlatStream}
-use Rattle.flat.specs.declared.structs.FlatTotals.{FlatTotals}
-use Rattle.flat.specs.declared.structs.FlatStep.{FlatStep}
+use Rattle.udx_c_numbers.specs.declared.structs.FlatStream.{FlatStream}
+use Rattle.udx_c_numbers.specs.declared.structs.FlatTotals.{FlatTotals}
+use Rattle.udx_c_numbers.specs.declared.structs.FlatStep.{FlatStep}
 use Rattle.udx_c.specs.Coded.{FlatEncodes, flatDecoded}
 use Rattle.udx_c.specs.Crosses.{FlatOpens}
 use Rattle.udx_c.specs.Layout.{streamFields, totalsFields, stepFields, countFrom}
@@ -54,7 +54,7 @@ plainEvent q r l buf = record { request = q; step = r; lent = l; buf = buf }
 module _ {M : Type 1} (𝓤 : URA M) (H : Heap 𝓤) (A : Atoms 𝓤) (mem : Memory → SProp 𝓤) (run : Routine → Fun 𝓤) where
   open Connectives (connectives 𝓤) using (⌜_⌝, ⊤ₛ)
 
-  -- udx_c/src/transfer.rt
+  -- udx_c/src/write.rt
   abbrev pub Write : Type 2
   Write =
       (κs : Lfts 7) (x : Args write.signature κs) (r : Res write.signature κs) (y : AtExit write.ended κs)
@@ -66,7 +66,7 @@ module _ {M : Type 1} (𝓤 : URA M) (H : Heap 𝓤) (A : Atoms 𝓤) (mem : Mem
       ≡ ⌜ PlainDid (plainOf s t (lent (now sent) (now held) (now queue) (now outgoing) (now incoming) (now headers)))
       (plainEvent (toWrite (now bytes)) r (lent (now sent′) (now held) (now queue′) (now outgoing′) (now incoming) (now headers)) []) ⌝)
 
-  -- udx_c/src/transfer.rt
+  -- udx_c/src/deliver.rt
   abbrev pub Deliver : Type 2
   Deliver =
       (κs : Lfts 7) (x : Args deliver.signature κs) (r : Res deliver.signature κs) (y : AtExit deliver.ended κs)
@@ -78,7 +78,7 @@ module _ {M : Type 1} (𝓤 : URA M) (H : Heap 𝓤) (A : Atoms 𝓤) (mem : Mem
       ≡ ⌜ PlainDid (plainOf s t (lent (now sent) (now held) (now queue) (now outgoing) (now incoming) (now headers)))
       (plainEvent (toDeliver (now datagram) clock) r (lent (now sent′) (now held′) (now queue′) (now outgoing) (now incoming′) (now headers′)) []) ⌝)
 
-  -- udx_c/src/lifecycle.rt
+  -- udx_c/src/drive.rt
   abbrev pub Drive : Type 2
   Drive =
       (κs : Lfts 6) (x : Args drive.signature κs) (r : Res drive.signature κs) (y : AtExit drive.ended κs)
@@ -90,7 +90,7 @@ module _ {M : Type 1} (𝓤 : URA M) (H : Heap 𝓤) (A : Atoms 𝓤) (mem : Mem
       ≡ ⌜ PlainDid (plainOf s t (lent (now sent) (now held) (now queue) (now outgoing) (now incoming) (now headers)))
       (plainEvent (toDrive clock) r (lent (now sent′) (now held) (now queue′) (now outgoing) (now incoming) (now headers′)) []) ⌝)
 
-  -- udx_c/src/batches.rt
+  -- udx_c/src/take.rt
   abbrev pub Take : Type 2
   Take =
       (κs : Lfts 7) (x : Args take.signature κs) (r : Res take.signature κs) (y : AtExit take.ended κs)
@@ -102,7 +102,7 @@ module _ {M : Type 1} (𝓤 : URA M) (H : Heap 𝓤) (A : Atoms 𝓤) (mem : Mem
       ≡ ⌜ PlainDid (plainOf s t (lent (now sent) (now held) (now queue) (now outgoing) (now incoming) (now headers)))
       (plainEvent (toTake (now buf)) r (lent (now sent′) (now held) (now queue) (now outgoing) (now incoming) (now headers)) (now buf′)) ⌝)
 
-  -- udx_c/src/transfer.rt
+  -- udx_c/src/read.rt
   abbrev pub Read : Type 2
   Read =
       (κs : Lfts 7) (x : Args read.signature κs) (r : Res read.signature κs) (y : AtExit read.ended κs)
@@ -114,7 +114,7 @@ module _ {M : Type 1} (𝓤 : URA M) (H : Heap 𝓤) (A : Atoms 𝓤) (mem : Mem
       ≡ ⌜ PlainDid (plainOf s t (lent (now sent) (now held) (now queue) (now outgoing) (now incoming) (now headers)))
       (plainEvent (toRead (now buf)) r (lent (now sent) (now held′) (now queue) (now outgoing) (now incoming) (now headers)) (now buf′)) ⌝)
 
-  -- udx_c/src/lifecycle.rt
+  -- udx_c/src/close.rt
   abbrev pub Close : Type 2
   Close =
       (κs : Lfts 6) (x : Args close.signature κs) (r : Res close.signature κs) (y : AtExit close.ended κs)
@@ -126,7 +126,7 @@ module _ {M : Type 1} (𝓤 : URA M) (H : Heap 𝓤) (A : Atoms 𝓤) (mem : Mem
       ≡ ⌜ PlainDid (plainOf s t (lent (now sent) (now held) (now queue) (now outgoing) (now incoming) (now headers)))
       (plainEvent toClose r (lent (now sent) (now held) (now queue′) (now outgoing) (now incoming) (now headers′)) []) ⌝)
 
-  -- udx_c/src/batches.rt
+  -- udx_c/src/look.rt
   abbrev pub Look : Type 2
   Look =
       (κs : Lfts 6) (x : Args look.signature κs) (r : Res look.signature κs) (y : AtExit look.ended κs)
@@ -136,7 +136,7 @@ module _ {M : Type 1} (𝓤 : URA M) (H : Heap 𝓤) (A : Atoms 𝓤) (mem : Mem
       × (c .ensures tt r y
       ≡ ⌜ Looks s t (lent (now sent) (now held) (now queue) (now outgoing) (now incoming) (now headers)) r ⌝)
 
-  -- udx_c/src/lifecycle.rt
+  -- udx_c/src/open.rt
   abbrev pub Open : Type 2
   Open =
       (κs : Lfts 3) (x : Args opening.signature κs) (r : Res opening.signature κs) (y : AtExit opening.ended κs)
@@ -146,7 +146,7 @@ module _ {M : Type 1} (𝓤 : URA M) (H : Heap 𝓤) (A : Atoms 𝓤) (mem : Mem
       × (c .ensures tt r y
       ≡ ⌜ FlatOpens local remote segments clock (now outgoing) (now incoming) (now headers) r ⌝)
 
-  -- udx_c/src/codec.rt
+  -- udx_c/src/header.rt
   abbrev pub Encode : Type 2
   Encode =
       (κs : Lfts 1) (x : Args encode.signature κs) (r : Res encode.signature κs) (y : AtExit encode.ended κs)
@@ -155,7 +155,7 @@ module _ {M : Type 1} (𝓤 : URA M) (H : Heap 𝓤) (A : Atoms 𝓤) (mem : Mem
       let c = encode.clauses 𝓤 H A mem run κs x in
       (c .requires tt ≡ ⊤ₛ) × (c .ensures tt r y ≡ ⌜ FlatEncodes header (now buf) (now buf′) r ⌝)
 
-  -- udx_c/src/codec.rt
+  -- udx_c/src/header.rt
   abbrev pub Decode : Type 2
   Decode =
       (κs : Lfts 1) (x : Args decode.signature κs) (r : Res decode.signature κs) (y : AtExit decode.ended κs)

@@ -11,8 +11,8 @@ use Rattle.model_ends.specs.TwoEnds.{History, noHistory, unreadInOrder, Id}
 use Rattle.records.specs.Seen.{Lent}
 use Rattle.promise.specs.Runs.{seenOf, callOf, callsOf, answerOf, Same}
 use Rattle.promise.specs.TwoEndsOnRecords.{noted, Side, Brings, IsRead, putByReads, Carried}
-use Rattle.flat.specs.declared.structs.FlatStep.{FlatStep}
-use Rattle.udx_c.specs.declared.batches.FlatPart.{FlatPart}
+use Rattle.udx_c_numbers.specs.declared.structs.FlatStep.{FlatStep}
+use Rattle.udx_c.specs.declared.look.FlatPart.{FlatPart}
 use Rattle.udx_c.specs.Shown.{ShownBy, Looks}
 use Rattle.promise_ways.specs.Calls.{
   Plain,

@@ -1,4 +1,4 @@
--- A call with the totals lent (crate `calls`) is a call on the records too, word for word: with the answer and the totals that it left as
+-- A call with the totals lent (crate `udx_lent`) is a call on the records too, word for word: with the answer and the totals that it left as
 -- one step, its `ensures` is `Did` (promise/specs/Runs.antt), and it requires nothing. So the theorems over lists of calls hold of these
 -- as they hold of the calls by value. `x` are the parameters, `y` what they are at the end, `r` is the result. Statements only: the proof
 -- is proofs/LentTotals.antt. Assumes nothing.
@@ -16,21 +16,21 @@ use contract.Notation.{Connectives, connectives}
 use denote.Ref.{now}
 use denote.Triple.Entry.{Args, Res}
 use denote.Triple.Clauses.{AtExit}
-use Rattle.broken_records.specs.Broken.{lent}
-use Rattle.calls.specs.Whole.{whole}
-use Rattle.calls.proofs.write as write
-use Rattle.calls.proofs.deliver as deliver
-use Rattle.calls.proofs.drive as drive
-use Rattle.calls.proofs.take as take
-use Rattle.calls.proofs.read as read
-use Rattle.calls.proofs.close as close
+use Rattle.rules_lent.specs.Broken.{lent}
+use Rattle.udx_lent.specs.Whole.{whole}
+use Rattle.udx_lent.proofs.write.write as write
+use Rattle.udx_lent.proofs.deliver.deliver as deliver
+use Rattle.udx_lent.proofs.drive.drive as drive
+use Rattle.udx_lent.proofs.take.take as take
+use Rattle.udx_lent.proofs.read.read as read
+use Rattle.udx_lent.proofs.close.close as close
 use Rattle.promise.specs.Runs.{toWrite, toDeliver, toDrive, toTake, toRead, toClose, Did}
 use Rattle.promise.specs.Contracts.{recordsOf, eventOf}
 
 module _ {M : Type 1} (𝓤 : URA M) (H : Heap 𝓤) (A : Atoms 𝓤) (mem : Memory → SProp 𝓤) (run : Routine → Fun 𝓤) where
   open Connectives (connectives 𝓤) using (⌜_⌝, ⊤ₛ)
 
-  -- calls/src/writing.rt
+  -- udx_lent/src/write.rt
   abbrev pub Write : Type 2
   Write =
       (κs : Lfts 8) (x : Args write.signature κs) (r : Res write.signature κs) (y : AtExit write.ended κs)
@@ -42,7 +42,7 @@ module _ {M : Type 1} (𝓤 : URA M) (H : Heap 𝓤) (A : Atoms 𝓤) (mem : Mem
       ≡ ⌜ Did (recordsOf s (now t) (lent (now sent) (now held) (now queue) (now outgoing) (now incoming) (now headers)))
       (eventOf (toWrite (now bytes)) (whole r (now t′)) (lent (now sent′) (now held) (now queue′) (now outgoing′) (now incoming) (now headers)) []) ⌝)
 
-  -- calls/src/datagrams.rt
+  -- udx_lent/src/deliver.rt
   abbrev pub Deliver : Type 2
   Deliver =
       (κs : Lfts 8) (x : Args deliver.signature κs) (r : Res deliver.signature κs) (y : AtExit deliver.ended κs)
@@ -54,7 +54,7 @@ module _ {M : Type 1} (𝓤 : URA M) (H : Heap 𝓤) (A : Atoms 𝓤) (mem : Mem
       ≡ ⌜ Did (recordsOf s (now t) (lent (now sent) (now held) (now queue) (now outgoing) (now incoming) (now headers)))
       (eventOf (toDeliver (now datagram) (clock .0)) (whole r (now t′)) (lent (now sent′) (now held′) (now queue′) (now outgoing) (now incoming′) (now headers′)) []) ⌝)
 
-  -- calls/src/driven.rt
+  -- udx_lent/src/drive.rt
   abbrev pub Drive : Type 2
   Drive =
       (κs : Lfts 7) (x : Args drive.signature κs) (r : Res drive.signature κs) (y : AtExit drive.ended κs)
@@ -66,7 +66,7 @@ module _ {M : Type 1} (𝓤 : URA M) (H : Heap 𝓤) (A : Atoms 𝓤) (mem : Mem
       ≡ ⌜ Did (recordsOf s (now t) (lent (now sent) (now held) (now queue) (now outgoing) (now incoming) (now headers)))
       (eventOf (toDrive (clock .0)) (whole r (now t′)) (lent (now sent′) (now held) (now queue′) (now outgoing) (now incoming) (now headers′)) []) ⌝)
 
-  -- calls/src/batches.rt
+  -- udx_lent/src/take.rt
   abbrev pub Take : Type 2
   Take =
       (κs : Lfts 8) (x : Args take.signature κs) (r : Res take.signature κs) (y : AtExit take.ended κs)
@@ -78,7 +78,7 @@ module _ {M : Type 1} (𝓤 : URA M) (H : Heap 𝓤) (A : Atoms 𝓤) (mem : Mem
       ≡ ⌜ Did (recordsOf s (now t) (lent (now sent) (now held) (now queue) (now outgoing) (now incoming) (now headers)))
       (eventOf (toTake (now buf)) (whole r (now t′)) (lent (now sent′) (now held) (now queue) (now outgoing) (now incoming) (now headers)) (now buf′)) ⌝)
 
-  -- calls/src/reading.rt
+  -- udx_lent/src/read.rt
   abbrev pub Read : Type 2
   Read =
       (κs : Lfts 8) (x : Args read.signature κs) (r : Res read.signature κs) (y : AtExit read.ended κs)
@@ -90,7 +90,7 @@ module _ {M : Type 1} (𝓤 : URA M) (H : Heap 𝓤) (A : Atoms 𝓤) (mem : Mem
       ≡ ⌜ Did (recordsOf s (now t) (lent (now sent) (now held) (now queue) (now outgoing) (now incoming) (now headers)))
       (eventOf (toRead (now buf)) (whole r (now t′)) (lent (now sent) (now held′) (now queue) (now outgoing) (now incoming) (now headers)) (now buf′)) ⌝)
 
-  -- calls/src/closed.rt
+  -- udx_lent/src/close.rt
   abbrev pub Close : Type 2
   Close =
       (κs : Lfts 7) (x : Args close.signature κs) (r : Res close.signature κs) (y : AtExit close.ended κs)

@@ -13,15 +13,15 @@ use Rattle.model.specs.Stream.{End, fresh}
 use Rattle.model.specs.Driving.{look}
 use Rattle.model.specs.Calls.{answer, after}
 use Rattle.model_ends.specs.TwoEnds.{unreadInOrder, Id}
-use Rattle.records.specs.declared.opening.Opened.{Opened}
+use Rattle.records.specs.declared.«open».Opened.{Opened}
 use Rattle.records.specs.Seen.{Lent}
 use Rattle.promise.specs.Runs.{Records, seenOf, callOf, Event, left, Did, answerOf, lastOf, callsOf, OpenedBy, handedOut, Same}
 use Rattle.promise.specs.TwoEndsOnRecords as records
 use Rattle.promise.specs.TwoEndsOnRecords.{Side, Ends, Turn, turned, Brings, IsRead, putByReads, Carried, bothOpened}
-use Rattle.flat.specs.declared.structs.FlatStep.{FlatStep}
-use Rattle.flat.specs.Bytes.{isStrange}
-use Rattle.flat.specs.Flat.{flatStream, flatTotals}
-use Rattle.udx_c.specs.declared.batches.FlatPart.{FlatPart}
+use Rattle.udx_c_numbers.specs.declared.structs.FlatStep.{FlatStep}
+use Rattle.udx_c_numbers.specs.Bytes.{isStrange}
+use Rattle.udx_c_numbers.specs.Flat.{flatStream, flatTotals}
+use Rattle.udx_c.specs.declared.look.FlatPart.{FlatPart}
 use Rattle.udx_c.specs.Shown.{ShownBy, Looks}
 use Rattle.promise_ways.specs.Calls.{Plain, PlainEvent, PlainDid, plainLeft, openedOf, recordsOf, eventOf, OpenedInC}
 

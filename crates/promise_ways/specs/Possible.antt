@@ -13,7 +13,7 @@ use Rattle.records.specs.Seen.{Lent}
 use Rattle.promise.specs.Runs.{Request, toWrite, toDeliver, toDrive, toTake, toRead}
 use Rattle.promise.specs.TwoEndsOnRecords.{ackOf, putByReads}
 use Rattle.promise.specs.Possible.{Sized, Openable, Asked, ofA, ofB, commandsFor}
-use Rattle.flat.specs.declared.structs.FlatStep.{FlatStep}
+use Rattle.udx_c_numbers.specs.declared.structs.FlatStep.{FlatStep}
 use Rattle.promise_ways.specs.Calls.{Plain, PlainEvent, PlainDid, plainLeft, plainOpened, eventsOf, OpenedInC}
 use Rattle.promise_ways.specs.FromC.{PlainSide, sideOf, PlainEnds, PlainTurn, onA, onB, plainLastOf, PlainOverALine, bothOpenedInC, PlainReadsAlone}
 

@@ -10,9 +10,9 @@ use lib.Dec.{ltb, leb, eqb}
 use borrow.Author.Tests.{le-leb, eq-eqb, leb-true, ltb-false, eqb-true}
 use lib.ListN.{length, take, drop, set, take-append-drop}
 use lib.Seq.{take-suc-set}
-use Rattle.words.specs.declared.Entry.{Entry}
+use Rattle.records_words.specs.declared.Entry.{Entry}
 use Rattle.records.specs.declared.Queue.{Queue}
-use Rattle.words.specs.Words.{entryOf, entryWord}
+use Rattle.records_words.specs.Words.{entryOf, entryWord}
 use Rattle.records.specs.Seen.{entryWords, stateWords, formedQueue, QueueFormed}
 use Rattle.model.proofs.Gate.{and-left, and-right}
 use Rattle.records.proofs.SeenQueue.{words-append, words-rest, words-pushed, words-drive, words-take}

@@ -9,7 +9,7 @@ use borrow.Author.Tests.{eq-eqb, ne-eqb, lt-ltb, le-ltb, le-leb, lt-leb}
 use Rattle.error.specs.declared.Refusal.{Refusal}
 use Rattle.error.specs.declared.Refusal.the-variants.{BrokenRecords, SegmentCeiling, BadClock}
 use Rattle.error.specs.declared.Outcome.the-variants.{Ready}
-use Rattle.records.specs.declared.opening.Opened.{Opened}
+use Rattle.records.specs.declared.«open».Opened.{Opened}
 use Rattle.records.specs.Open.{freshStream, freshTotals, openWhy, refusedOpen, Opens}
 
 module _ (local remote segments clock : ℕ) (outgoing incoming headers : List ℕ) where

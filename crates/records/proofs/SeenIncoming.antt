@@ -14,8 +14,8 @@ use lib.Seq.{getD-set-same, getD-set-other}
 use Rattle.model.specs.Lists.{Bytes}
 use Rattle.model.specs.Slots.{Slots, ceiling, noSlots, get, insert, remove}
 use Rattle.model.specs.Stream as model
-use Rattle.words.specs.declared.Held.{Held}
-use Rattle.words.specs.Words.{heldOf, heldWord, isHeld}
+use Rattle.records_words.specs.declared.Held.{Held}
+use Rattle.records_words.specs.Words.{heldOf, heldWord, isHeld}
 use Rattle.records.specs.Cut.{cut, incomingSlot}
 use Rattle.records.specs.Put.{put}
 use Rattle.records.specs.Seen.{heldPayload, seenIncoming}

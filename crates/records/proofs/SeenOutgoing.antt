@@ -15,8 +15,8 @@ use Rattle.model.specs.Lists.{Bytes}
 use Rattle.model.specs.Slots.{ceiling, noSlots, get, insert, remove}
 use Rattle.model.specs.Stream as model
 use Rattle.model.specs.Driving.{marked}
-use Rattle.words.specs.declared.Sent.{Sent}
-use Rattle.words.specs.Words.{sentOf, sentIn, sentWord, sentTime, isStored}
+use Rattle.records_words.specs.declared.Sent.{Sent}
+use Rattle.records_words.specs.Words.{sentOf, sentIn, sentWord, sentTime, isStored}
 use Rattle.records.specs.Cut.{cut, outgoingSlot}
 use Rattle.records.specs.Put.{put}
 use Rattle.records.specs.Seen.{marksOf, packetOf, withSent, seenOutgoing}

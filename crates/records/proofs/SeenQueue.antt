@@ -15,9 +15,9 @@ use Rattle.model.specs.Lists.{Bytes}
 use Rattle.model.specs.Stream as model
 use Rattle.model.specs.Rules.{states}
 use Rattle.model.specs.Sending.{pushed}
-use Rattle.words.specs.declared.Entry.{Entry}
+use Rattle.records_words.specs.declared.Entry.{Entry}
 use Rattle.records.specs.declared.Queue.{Queue}
-use Rattle.words.specs.Words.{entryOf, entryWord}
+use Rattle.records_words.specs.Words.{entryOf, entryWord}
 use Rattle.records.specs.Cut.{cut, headerSlot}
 use Rattle.records.specs.Put.{put}
 use Rattle.records.specs.Seen.{entryWords, seenEntries, stateWords, seenQueue}

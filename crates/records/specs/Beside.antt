@@ -6,9 +6,9 @@ use mathlib.Core.Path.{_≡_}
 use mathlib.Core.List.{List}
 use lib.ListN.{getD}
 use Rattle.model.specs.Slots.{ceiling}
-use Rattle.words.specs.declared.Sent.{Sent}
-use Rattle.words.specs.declared.Held.{Held}
-use Rattle.words.specs.Words.{sentIn, heldOf}
+use Rattle.records_words.specs.declared.Sent.{Sent}
+use Rattle.records_words.specs.declared.Held.{Held}
+use Rattle.records_words.specs.Words.{sentIn, heldOf}
 use Rattle.records.specs.Cut.{beyond, outgoingSlot, incomingSlot}
 use Rattle.records.specs.Seen.{Lent}
 

@@ -19,7 +19,7 @@ use Rattle.records.specs.declared.StreamState.the-variants as state
 use Rattle.records.specs.declared.Timing.{Timing}
 use Rattle.records.specs.declared.Stream.{Stream}
 use Rattle.records.specs.declared.Totals.{Totals}
-use Rattle.records.specs.declared.opening.Opened.{Opened}
+use Rattle.records.specs.declared.«open».Opened.{Opened}
 
 abbrev pub freshTiming : ℕ → Timing
 freshTiming clock = record { rtt = estimate.fresh; deadline = record { 0 = nanos ((clock + 1_000_000_000) % 2 ^ 64) } }

@@ -11,9 +11,9 @@ use Rattle.model.specs.Lists.{Bytes}
 use Rattle.model.specs.Slots.{Slots, Numbered, ceiling}
 use Rattle.model.specs.Stream as model
 use Rattle.model.specs.Rules.{states}
-use Rattle.words.specs.declared.Sent.{Sent}
-use Rattle.words.specs.declared.Held.{Held}
-use Rattle.words.specs.declared.Entry.{Entry}
+use Rattle.records_words.specs.declared.Sent.{Sent}
+use Rattle.records_words.specs.declared.Held.{Held}
+use Rattle.records_words.specs.declared.Entry.{Entry}
 use Rattle.records.specs.declared.Sender.{Sender}
 use Rattle.records.specs.declared.Receiver.{Receiver}
 use Rattle.records.specs.declared.Queue.{Queue}
@@ -21,7 +21,7 @@ use Rattle.records.specs.declared.StreamState.{StreamState}
 use Rattle.records.specs.declared.StreamState.the-variants as state
 use Rattle.records.specs.declared.Stream.{Stream}
 use Rattle.records.specs.declared.Totals.{Totals}
-use Rattle.words.specs.Words.{sentIn, sentWord, sentTime, isStored, heldOf, isHeld, entryOf}
+use Rattle.records_words.specs.Words.{sentIn, sentWord, sentTime, isStored, heldOf, isHeld, entryOf}
 use Rattle.records.specs.Table.{table}
 use Rattle.records.specs.Cut.{cut, outgoingSlot, incomingSlot, headerSlot}
 

@@ -1,33 +1,32 @@
 // The records of a stream: its numbers by value, in the groups of the model; its packets and its queue as words of lent arrays; the
 // bytes in three lent stores. specs/Seen.antt says what they mean.
 mod errors;
-mod opening;
+pub mod open;
 
 use error::Outcome;
 use error::UdxError;
 pub use errors::is_set;
-pub use opening::Opened;
-pub use opening::open;
+pub use open::Opened;
+pub use records_words::Entry;
+pub use records_words::Held;
+pub use records_words::Sent;
+pub use records_words::clear_held;
+pub use records_words::clear_sent;
+pub use records_words::get_entry;
+pub use records_words::get_held;
+pub use records_words::get_sent;
+pub use records_words::is_held;
+pub use records_words::is_short;
+pub use records_words::is_sized;
+pub use records_words::is_stored;
+pub use records_words::least;
+pub use records_words::put_entry;
+pub use records_words::put_held;
+pub use records_words::put_sent;
+pub use records_words::same_packet;
+pub use records_words::word_count;
 use rtt::Nanos;
 use rtt::Rtt;
-pub use words::Entry;
-pub use words::Held;
-pub use words::Sent;
-pub use words::clear_held;
-pub use words::clear_sent;
-pub use words::get_entry;
-pub use words::get_held;
-pub use words::get_sent;
-pub use words::is_held;
-pub use words::is_short;
-pub use words::is_sized;
-pub use words::is_stored;
-pub use words::least;
-pub use words::put_entry;
-pub use words::put_held;
-pub use words::put_sent;
-pub use words::same_packet;
-pub use words::word_count;
 
 pub struct Ids {
     pub local: u32,
@@ -69,7 +68,7 @@ pub struct Queue {
     pub gone: u32,
 }
 
-// When the retransmission timer is due: a type of its own, which only the crate timer compares with a clock.
+// When the retransmission timer is due: a type of its own, which only the crate drive_timer compares with a clock.
 pub struct Deadline(pub Nanos);
 
 pub struct Timing {

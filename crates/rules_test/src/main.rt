@@ -32,7 +32,7 @@ struct Tester {
 }
 
 fn fresh(outgoing: &[u8], incoming: &[u8], headers: &[u8]) -> Records {
-    let o = records::open(1, 2, 10, Nanos(0), outgoing, incoming, headers);
+    let o = records::open::open(1, 2, 10, Nanos(0), outgoing, incoming, headers);
     let stream = o.stream;
     let totals = o.totals;
     Records {
@@ -163,7 +163,7 @@ fn kept(r: Records) -> bool {
     let sent = r.sent;
     let held = r.held;
     let queue = r.queue;
-    rules::ok_stream(r.stream, r.totals, &sent, &held, &queue)
+    rules_stream::ok_stream(r.stream, r.totals, &sent, &held, &queue)
 }
 
 fn say(r: Records) {

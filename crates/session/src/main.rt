@@ -2,12 +2,12 @@
 use constants::HEADER_STORE;
 use constants::INCOMING_STORE;
 use constants::OUTGOING_STORE;
-use kept::KEPT_STORE;
 use libc::STDIN_FILENO;
 use libc::STDOUT_FILENO;
-use play::Ends;
-use play::SCRATCH;
-use text::LINE;
+use session_kept::KEPT_STORE;
+use session_text::LINE;
+use session_turn::Ends;
+use session_turn::SCRATCH;
 
 fn write_line(line: &[u8], len: usize) {
     if len <= line.len() {
@@ -32,7 +32,7 @@ fn run(
     let mut ends = fresh;
     let mut at: usize = 0;
     while at < script.len() {
-        let t = play::run_one(
+        let t = session_turn::run_one(
             ends,
             script,
             at,
@@ -66,7 +66,7 @@ fn main() {
     let mut kept_1 = [0u8; KEPT_STORE];
     let mut scratch = [0u8; SCRATCH];
     let mut line = [0u8; LINE];
-    let ends = play::open_ends(
+    let ends = session_turn::open_ends(
         &outgoing_0,
         &incoming_0,
         &headers_0,

@@ -26,14 +26,14 @@ use Rattle.records.specs.declared.Stream.{Stream}
 use Rattle.records.specs.declared.Totals.{Totals}
 use Rattle.records.specs.Seen.{Lent, seen, seenQueue, formed, formedQueue, formedReceiver}
 use Rattle.records.specs.Open.{storesTest}
-use Rattle.closing.specs.declared.Queued.{Queued}
-use Rattle.closing.specs.State.{seenEnding, Pushable, StateQueued, withState}
-use Rattle.closing.proofs.StatePacket.{terminate-seen}
-use Rattle.answers.specs.Steps.{refusedStep}
+use Rattle.close_state.specs.declared.Queued.{Queued}
+use Rattle.close_state.specs.State.{seenEnding, Pushable, StateQueued, withState}
+use Rattle.close_state.proofs.StatePacket.{terminate-seen}
+use Rattle.udx_steps.specs.Steps.{refusedStep}
 use Rattle.udx.specs.Agree.{laidOut, Agrees, Answers}
-use Rattle.answers.specs.Close.{closedStep}
-use Rattle.broken_records.specs.Broken.{brokenRecords}
-use Rattle.refusals.specs.Verdicts.{verdictOf, closeVerdict}
+use Rattle.udx_steps.specs.Close.{closedStep}
+use Rattle.rules_lent.specs.Broken.{brokenRecords}
+use Rattle.udx_refusals.specs.Verdicts.{verdictOf, closeVerdict}
 use Rattle.udx.proofs.RefusalLaws.{line, clear-line, refusal-one, is-refused, is-clear, acts-on, whyOf, refused-answers}
 use Rattle.udx.proofs.Resting.{ready}
 use Rattle.udx.proofs.Unbroken.{Whole, unbroken, still-laid, places-used}

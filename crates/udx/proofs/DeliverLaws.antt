@@ -31,15 +31,15 @@ use Rattle.records.specs.declared.Stream.{Stream}
 use Rattle.records.specs.declared.Totals.{Totals}
 use Rattle.records.specs.Seen.{Lent, seen, seenQueue}
 use Rattle.records.specs.Open.{storesTest}
-use Rattle.receiving.specs.Absorbing.{Accepted}
-use Rattle.receiving.proofs.LaidLaws.{laid-said, laid-says}
-use Rattle.handling.specs.declared.Delivered.{Delivered}
-use Rattle.delivering.specs.Handle.{Deliverable, Handled, withDelivered}
-use Rattle.answers.specs.Steps.{refusedStep}
+use Rattle.deliver_data.specs.Absorbing.{Accepted}
+use Rattle.deliver_data.proofs.LaidLaws.{laid-said, laid-says}
+use Rattle.deliver_parts.specs.declared.Delivered.{Delivered}
+use Rattle.deliver_all.specs.Handle.{Deliverable, Handled, withDelivered}
+use Rattle.udx_steps.specs.Steps.{refusedStep}
 use Rattle.udx.specs.Agree.{laidOut, onRecords, Agrees, Answers}
-use Rattle.answers.specs.Deliver.{deliveredStep}
-use Rattle.broken_records.specs.Broken.{brokenRecords}
-use Rattle.refusals.specs.Verdicts.{verdictOf, earlyVerdict, headerVerdict}
+use Rattle.udx_steps.specs.Deliver.{deliveredStep}
+use Rattle.rules_lent.specs.Broken.{brokenRecords}
+use Rattle.udx_refusals.specs.Verdicts.{verdictOf, earlyVerdict, headerVerdict}
 use Rattle.udx.proofs.EarlyLaws.{early-says, early-clear, early-clock}
 use Rattle.udx.proofs.RefusalLaws.{line, clear-line, is-refused, is-clear, acts-on, whyOf, refused-answers}
 use Rattle.udx.proofs.Resting.{ready}

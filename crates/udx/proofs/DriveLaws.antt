@@ -20,16 +20,16 @@ use Rattle.records.specs.declared.Stream.{Stream}
 use Rattle.records.specs.declared.Totals.{Totals}
 use Rattle.records.specs.Seen.{Lent, seen, seenQueue, formedReceiver}
 use Rattle.records.specs.Open.{storesTest}
-use Rattle.draining.specs.Draining.{Drains}
-use Rattle.driving.proofs.RulesDrive.{rules-stored}
-use Rattle.settling.specs.declared.Polled.{Polled}
-use Rattle.timeouts.specs.Timeouts.{withPolled}
-use Rattle.polling.specs.Poll.{Drivable, Polls}
-use Rattle.answers.specs.Steps.{refusedStep}
+use Rattle.drive_drain.specs.Draining.{Drains}
+use Rattle.drive_lost.proofs.RulesDrive.{rules-stored}
+use Rattle.drive_settle.specs.declared.Polled.{Polled}
+use Rattle.drive_timeouts.specs.Timeouts.{withPolled}
+use Rattle.drive_all.specs.Poll.{Drivable, Polls}
+use Rattle.udx_steps.specs.Steps.{refusedStep}
 use Rattle.udx.specs.Agree.{onRecords, Agrees, Answers}
-use Rattle.answers.specs.Drive.{doneStep, polledStep}
-use Rattle.broken_records.specs.Broken.{brokenRecords}
-use Rattle.refusals.specs.Verdicts.{earlyVerdict}
+use Rattle.udx_steps.specs.Drive.{doneStep, polledStep}
+use Rattle.rules_lent.specs.Broken.{brokenRecords}
+use Rattle.udx_refusals.specs.Verdicts.{earlyVerdict}
 use Rattle.udx.proofs.EarlyLaws.{early-says, early-clear, early-clock}
 use Rattle.udx.proofs.RefusalLaws.{is-refused, is-clear, acts-on, refused-answers}
 use Rattle.udx.proofs.Resting.{ready}

@@ -14,8 +14,8 @@ use Rattle.model.specs.Driving.{driveRefusal}
 use Rattle.records.specs.declared.Stream.{Stream}
 use Rattle.records.specs.declared.Totals.{Totals}
 use Rattle.records.specs.Seen.{Lent, seen, seenQueue}
-use Rattle.broken_records.specs.Broken.{brokenRecords}
-use Rattle.refusals.specs.Verdicts.{verdictOf, earlyVerdict}
+use Rattle.rules_lent.specs.Broken.{brokenRecords}
+use Rattle.udx_refusals.specs.Verdicts.{verdictOf, earlyVerdict}
 use Rattle.udx.proofs.RefusalLaws.{line, clear-line, refusal-one, whyOf}
 
 or-left : (a b : Bool) → (a || b) ≡ false → a ≡ false

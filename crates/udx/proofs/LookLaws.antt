@@ -11,12 +11,12 @@ use Rattle.records.specs.declared.Stream.{Stream}
 use Rattle.records.specs.declared.Totals.{Totals}
 use Rattle.records.specs.Seen.{Lent, seen, formed}
 use Rattle.records.specs.Open.{storesTest}
-use Rattle.rules.proofs.Seen.{ok-seen}
-use Rattle.taking.specs.Take.{Kept, Shows}
-use Rattle.taking.proofs.RulesTake.{own-lends, rules-kept}
+use Rattle.rules_stream.proofs.Seen.{ok-seen}
+use Rattle.take_next.specs.Take.{Kept, Shows}
+use Rattle.take_next.proofs.RulesTake.{own-lends, rules-kept}
 use Rattle.udx.specs.Agree.{laidOut}
 use Rattle.udx.specs.Look.{shownOf}
-use Rattle.broken_records.specs.Broken.{brokenRecords}
+use Rattle.rules_lent.specs.Broken.{brokenRecords}
 use Rattle.udx.proofs.Unbroken.{unbroken, still-laid}
 
 nothing : (differ laid kept left : Bool) (shown : Bytes) → (differ || not (laid && kept)) ≡ true → [] ≡ cond (not differ && laid) (cond (kept && left) shown []) []

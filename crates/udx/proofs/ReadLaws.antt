@@ -25,18 +25,18 @@ use Rattle.records.specs.declared.Receiver.{Receiver}
 use Rattle.records.specs.declared.Stream.{Stream}
 use Rattle.records.specs.declared.Totals.{Totals}
 use Rattle.records.specs.Put.{put}
-use Rattle.words.specs.Words.{heldOf, isHeld}
+use Rattle.records_words.specs.Words.{heldOf, isHeld}
 use Rattle.records.specs.Seen.{Lent, seen, formedReceiver}
-use Rattle.rules.specs.Ok.{okStream, clocksOk}
-use Rattle.packet_rules.specs.Packets.{okReceiver, okSender, everyFrom, heldOk}
-use Rattle.receiving.specs.declared.Read.{Read}
-use Rattle.receiving.specs.Reading.{HeldFit, Readable, HasRead}
-use Rattle.receiving.proofs.LaidLaws.{laid-said, laid-says}
-use Rattle.answers.specs.Steps.{refusedStep}
+use Rattle.rules_stream.specs.Ok.{okStream, clocksOk}
+use Rattle.rules_packets.specs.Packets.{okReceiver, okSender, everyFrom, heldOk}
+use Rattle.deliver_data.specs.declared.Read.{Read}
+use Rattle.deliver_data.specs.Reading.{HeldFit, Readable, HasRead}
+use Rattle.deliver_data.proofs.LaidLaws.{laid-said, laid-says}
+use Rattle.udx_steps.specs.Steps.{refusedStep}
 use Rattle.udx.specs.Agree.{onRecords, Agrees}
-use Rattle.broken_records.specs.Broken.{brokenRecords}
-use Rattle.refusals.specs.Verdicts.{verdictOf}
-use Rattle.answers.specs.Read.{outcomeOf, readStream, readStep}
+use Rattle.rules_lent.specs.Broken.{brokenRecords}
+use Rattle.udx_refusals.specs.Verdicts.{verdictOf}
+use Rattle.udx_steps.specs.Read.{outcomeOf, readStream, readStep}
 use Rattle.udx.specs.Read.{readLent, Gives}
 use Rattle.udx.proofs.RefusalLaws.{refusal-one, whyOf, is-refused, is-clear, acts-on, refused-agrees, puts-nothing}
 use Rattle.udx.proofs.Unbroken.{Whole, unbroken, still-laid}

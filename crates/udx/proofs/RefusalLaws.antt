@@ -24,11 +24,11 @@ use Rattle.records.specs.declared.Totals.{Totals}
 use Rattle.records.specs.Put.{put}
 use Rattle.records.specs.Seen.{Lent, seen, seenQueue, formed}
 use Rattle.records.specs.Open.{storesTest}
-use Rattle.rules.proofs.Seen.{ok-seen}
-use Rattle.answers.specs.Steps.{refusedStep}
+use Rattle.rules_stream.proofs.Seen.{ok-seen}
+use Rattle.udx_steps.specs.Steps.{refusedStep}
 use Rattle.udx.specs.Agree.{laidOut, onRecords, Agrees, Answers}
-use Rattle.broken_records.specs.Broken.{brokenRecords}
-use Rattle.refusals.specs.Verdicts.{verdictOf, errorVerdict, writeVerdict}
+use Rattle.rules_lent.specs.Broken.{brokenRecords}
+use Rattle.udx_refusals.specs.Verdicts.{verdictOf, errorVerdict, writeVerdict}
 
 -- one line of a list
 pub line : (b : Bool) (why : Refusal) (v : Verdict) (o : Option Refusal) → v ≡ verdictOf o → cond b (Refused why) v ≡ verdictOf (cond b (some why) o)

@@ -16,14 +16,14 @@ use Rattle.model.proofs.Gate.{and-left, and-right}
 use Rattle.model.proofs.RulesKept.{rules-say, sum-most, distinct-few}
 use Rattle.records.specs.declared.Stream.{Stream}
 use Rattle.records.specs.declared.Totals.{Totals}
-use Rattle.words.specs.Words.{sentIn, isStored}
+use Rattle.records_words.specs.Words.{sentIn, isStored}
 use Rattle.records.specs.Seen.{Lent, outgoingSlotAt, seen, seenOutgoing, seenQueue, entryWords}
 use Rattle.records.proofs.Table.{table-length}
 use Rattle.records.proofs.SeenQueue.{entries-length, rest-length}
-use Rattle.rules.specs.Ok.{okStream, clocksOk}
-use Rattle.packet_rules.specs.Packets.{okSender, sumFrom, packetsAt, senderNumbersOk, everyFrom, storedOk, sumsOk, inflightAt}
-use Rattle.sending.specs.Write.{Ready}
-use Rattle.answers.specs.Write.{outboxOf}
+use Rattle.rules_stream.specs.Ok.{okStream, clocksOk}
+use Rattle.rules_packets.specs.Packets.{okSender, sumFrom, packetsAt, senderNumbersOk, everyFrom, storedOk, sumsOk, inflightAt}
+use Rattle.write_all.specs.Write.{Ready}
+use Rattle.udx_steps.specs.Write.{outboxOf}
 use Rattle.udx.proofs.Unbroken.{Whole}
 
 -- the number of stored packets is at most that of numbers

@@ -26,15 +26,15 @@ use Rattle.records.specs.declared.Totals.{Totals}
 use Rattle.records.specs.Put.{put}
 use Rattle.records.specs.Seen.{Lent, seen, seenQueue}
 use Rattle.records.proofs.FormedQueue.{queue-said}
-use Rattle.taking.specs.declared.Handed.{Handed}
-use Rattle.taking.specs.Take.{takenStream, takenLent, Sendable, HandedOut, HandsOut}
-use Rattle.taking.proofs.RulesTake.{own-lends, rules-take}
+use Rattle.take_next.specs.declared.Handed.{Handed}
+use Rattle.take_next.specs.Take.{takenStream, takenLent, Sendable, HandedOut, HandsOut}
+use Rattle.take_next.proofs.RulesTake.{own-lends, rules-take}
 use Rattle.udx.specs.Agree as agree
-use Rattle.answers.specs.Steps.{refusedStep}
+use Rattle.udx_steps.specs.Steps.{refusedStep}
 use Rattle.udx.specs.Agree.{onRecords, Agrees}
-use Rattle.broken_records.specs.Broken.{brokenRecords}
-use Rattle.refusals.specs.Verdicts.{verdictOf, takeVerdict}
-use Rattle.answers.specs.Take.{nothingStep, takenStep}
+use Rattle.rules_lent.specs.Broken.{brokenRecords}
+use Rattle.udx_refusals.specs.Verdicts.{verdictOf, takeVerdict}
+use Rattle.udx_steps.specs.Take.{nothingStep, takenStep}
 use Rattle.udx.specs.Take.{Hands}
 use Rattle.udx.proofs.RefusalLaws.{line, refusal-one, whyOf, is-refused, is-clear, acts-on, clear-line, refused-answers, puts-nothing}
 use Rattle.udx.proofs.Unbroken.{Whole, unbroken, still-laid}

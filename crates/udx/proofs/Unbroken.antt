@@ -14,10 +14,10 @@ use Rattle.records.specs.Seen.{Lent, seen, seenQueue, entryWords, formed, forme
 use Rattle.records.specs.Open.{storesTest}
 use Rattle.records.proofs.SeenQueue.{entries-states}
 use Rattle.records.proofs.FormedQueue.{queue-says}
-use Rattle.rules.specs.Ok.{okStream}
-use Rattle.rules.proofs.Seen.{ok-says}
+use Rattle.rules_stream.specs.Ok.{okStream}
+use Rattle.rules_stream.proofs.Seen.{ok-says}
 use Rattle.udx.specs.Agree.{laidOut}
-use Rattle.broken_records.specs.Broken.{brokenRecords}
+use Rattle.rules_lent.specs.Broken.{brokenRecords}
 
 -- the parts of `laidOut`
 pub still-laid : (s : Stream) (l : Lent) → storesTest (l .outgoing) (l .incoming) (l .headers) ≡ false → formedReceiver (s .receiver) ≡ true

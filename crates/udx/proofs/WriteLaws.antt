@@ -21,15 +21,15 @@ use Rattle.records.specs.declared.Stream.{Stream}
 use Rattle.records.specs.declared.Totals.{Totals}
 use Rattle.records.specs.Seen.{Lent, seen}
 use Rattle.records.specs.Open.{storesTest}
-use Rattle.sending.specs.declared.Written.{Written}
-use Rattle.pieces.specs.Piece.{withSent}
-use Rattle.sending.specs.Write as sending
-use Rattle.answers.specs.declared.step.Step.{Step}
-use Rattle.answers.specs.Steps.{refusedStep}
+use Rattle.write_all.specs.declared.Written.{Written}
+use Rattle.write_piece.specs.Piece.{withSent}
+use Rattle.write_all.specs.Write as sending
+use Rattle.udx_steps.specs.declared.step.Step.{Step}
+use Rattle.udx_steps.specs.Steps.{refusedStep}
 use Rattle.udx.specs.Agree.{onRecords, Agrees, Answers}
-use Rattle.broken_records.specs.Broken.{brokenRecords}
-use Rattle.refusals.specs.Verdicts.{verdictOf, writeVerdict}
-use Rattle.answers.specs.Write.{outboxOf, outcomeOf, writtenStep}
+use Rattle.rules_lent.specs.Broken.{brokenRecords}
+use Rattle.udx_refusals.specs.Verdicts.{verdictOf, writeVerdict}
+use Rattle.udx_steps.specs.Write.{outboxOf, outcomeOf, writtenStep}
 use Rattle.udx.proofs.RefusalLaws.{write-list, is-refused, is-clear, acts-on, whyOf, clear-line, refused-answers}
 use Rattle.udx.proofs.Resting.{ready}
 use Rattle.udx.proofs.Unbroken.{Whole, unbroken, still-laid}

@@ -15,7 +15,7 @@ use Rattle.records.specs.declared.Totals.{Totals}
 use Rattle.records.specs.Seen.{Lent, seen, formed}
 use Rattle.records.specs.Beside.{Beside}
 use Rattle.records.specs.Open.{storesTest}
-use Rattle.answers.specs.declared.step.Step.{Step}
+use Rattle.udx_steps.specs.declared.step.Step.{Step}
 
 -- the stores have their lengths and the records are laid out as they should be
 unfoldable pub laidOut : Stream → Lent → Bool

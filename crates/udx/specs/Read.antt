@@ -13,7 +13,7 @@ use Rattle.records.specs.declared.Stream.{Stream}
 use Rattle.records.specs.declared.Totals.{Totals}
 use Rattle.records.specs.Put.{put}
 use Rattle.records.specs.Seen.{Lent}
-use Rattle.answers.specs.declared.step.Step.{Step}
+use Rattle.udx_steps.specs.declared.step.Step.{Step}
 use Rattle.udx.specs.Agree.{laidOut, onRecords, Agrees, Unchanged}
 
 abbrev pub readLent : List ℕ → Lent → Lent

@@ -13,21 +13,14 @@
 //   close           1, 5, 6, 13
 //   Header::encode  2
 //   Header::from_bytes (decode)  7
-mod batches;
-mod closed;
-mod datagrams;
-mod driven;
-mod looking;
-mod reading;
-mod writing;
+pub mod close;
+pub mod deliver;
+pub mod drive;
+pub mod look;
+pub mod read;
+pub mod take;
+pub mod write;
 
-pub use answers::Step;
-pub use batches::take;
-pub use closed::close;
-pub use datagrams::deliver;
-pub use driven::drive;
-pub use looking::look;
 pub use packet::Header;
-pub use reading::read;
 pub use records::open;
-pub use writing::write;
+pub use udx_steps::Step;

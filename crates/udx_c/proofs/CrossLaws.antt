@@ -2,18 +2,18 @@
 -- numbers stand for. Assumes nothing.
 use mathlib.Core.Path.{_≡_, refl, sym, _∙_}
 use mathlib.Core.Bool.{Bool, true, false, true≢false}
-use Rattle.places.specs.declared.Part.{Part}
-use Rattle.places.specs.Place.{lookedPart}
+use Rattle.udx_c_part.specs.declared.Part.{Part}
+use Rattle.udx_c_part.specs.Place.{lookedPart}
 use Rattle.records.specs.declared.Stream.{Stream}
 use Rattle.records.specs.declared.Totals.{Totals}
 use Rattle.records.specs.Seen.{Lent}
-use Rattle.answers.specs.declared.step.Step.{Step}
-use Rattle.flat.specs.declared.structs.FlatStream.{FlatStream}
-use Rattle.flat.specs.declared.structs.FlatTotals.{FlatTotals}
-use Rattle.flat.specs.declared.structs.FlatStep.{FlatStep}
-use Rattle.flat.specs.Bytes.{isStrange}
-use Rattle.flat.specs.Flat.{streamOf, totalsOf, flatStep, brokenStep}
-use Rattle.udx_c.specs.declared.batches.FlatPart.{FlatPart}
+use Rattle.udx_steps.specs.declared.step.Step.{Step}
+use Rattle.udx_c_numbers.specs.declared.structs.FlatStream.{FlatStream}
+use Rattle.udx_c_numbers.specs.declared.structs.FlatTotals.{FlatTotals}
+use Rattle.udx_c_numbers.specs.declared.structs.FlatStep.{FlatStep}
+use Rattle.udx_c_numbers.specs.Bytes.{isStrange}
+use Rattle.udx_c_numbers.specs.Flat.{streamOf, totalsOf, flatStep, brokenStep}
+use Rattle.udx_c.specs.declared.look.FlatPart.{FlatPart}
 use Rattle.udx_c.specs.Crosses.{Crosses, Called}
 use Rattle.udx_c.specs.Shown.{noPart, flatPart, Looks}
 

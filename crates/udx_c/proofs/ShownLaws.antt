@@ -5,10 +5,10 @@ use mathlib.Core.Path.{_≡_, refl}
 use mathlib.Core.Bool.{Bool, true, false, cond}
 use lib.Dec.{eqb}
 use Rattle.model.specs.Lists.{Bytes}
-use Rattle.places.specs.declared.Part.{Part}
-use Rattle.places.specs.Place.{PartOf}
-use Rattle.places.proofs.Looked.{looked-shown}
-use Rattle.flat.specs.Flat.{streamOf, totalsOf}
+use Rattle.udx_c_part.specs.declared.Part.{Part}
+use Rattle.udx_c_part.specs.Place.{PartOf}
+use Rattle.udx_c_part.proofs.Looked.{looked-shown}
+use Rattle.udx_c_numbers.specs.Flat.{streamOf, totalsOf}
 use Rattle.udx_c.specs.Shown.{flatPart, storeOf, ShownBy, LooksShown}
 
 same-store : (p : Part) (outgoing headers : Bytes) → storeOf (flatPart p) outgoing headers ≡ cond (p .header) headers outgoing

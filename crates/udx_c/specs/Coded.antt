@@ -8,9 +8,9 @@ use Rattle.packet.specs.declared.header.Header.{Header}
 use Rattle.packet.specs.declared.header.Decoded.{Decoded}
 use Rattle.packet.specs.declared.header.Decoded.the-variants as decoded
 use Rattle.packet.specs.Header.{Encodes}
-use Rattle.flat.specs.Bytes.{refusalByte}
-use Rattle.udx_c.specs.declared.codec.FlatHeader.{FlatHeader}
-use Rattle.udx_c.specs.declared.codec.FlatDecoded.{FlatDecoded}
+use Rattle.udx_c_numbers.specs.Bytes.{refusalByte}
+use Rattle.udx_c.specs.declared.header.FlatHeader.{FlatHeader}
+use Rattle.udx_c.specs.declared.header.FlatDecoded.{FlatDecoded}
 
 abbrev pub headerOf : FlatHeader → Header
 headerOf f = record { typ = f .typ; «data_offset» = f .«data_offset»; «stream_id» = f .«stream_id»; «recv_win» = f .«recv_win»; seq = f .seq; ack = f .ack }

@@ -7,14 +7,14 @@ use Rattle.records.specs.declared.Stream.{Stream}
 use Rattle.records.specs.declared.Totals.{Totals}
 use Rattle.records.specs.Seen.{Lent}
 use Rattle.model.specs.Lists.{Bytes}
-use Rattle.records.specs.declared.opening.Opened.{Opened}
+use Rattle.records.specs.declared.«open».Opened.{Opened}
 use Rattle.records.specs.Open.{Opens}
-use Rattle.answers.specs.declared.step.Step.{Step}
-use Rattle.flat.specs.declared.structs.FlatStream.{FlatStream}
-use Rattle.flat.specs.declared.structs.FlatTotals.{FlatTotals}
-use Rattle.flat.specs.declared.structs.FlatStep.{FlatStep}
-use Rattle.flat.specs.Bytes.{isStrange}
-use Rattle.flat.specs.Flat.{streamOf, totalsOf, flatStep, flatOpened, brokenStep}
+use Rattle.udx_steps.specs.declared.step.Step.{Step}
+use Rattle.udx_c_numbers.specs.declared.structs.FlatStream.{FlatStream}
+use Rattle.udx_c_numbers.specs.declared.structs.FlatTotals.{FlatTotals}
+use Rattle.udx_c_numbers.specs.declared.structs.FlatStep.{FlatStep}
+use Rattle.udx_c_numbers.specs.Bytes.{isStrange}
+use Rattle.udx_c_numbers.specs.Flat.{streamOf, totalsOf, flatStep, flatOpened, brokenStep}
 
 -- a step that is the call's, and that is what is handed back
 pub record Called (call : Stream → Totals → Lent → Step → Lent → Type 0) (s : FlatStream) (t : FlatTotals) (before : Lent) (r : FlatStep)

@@ -1,9 +1,9 @@
 -- The structs as lists of their fields, in order: what the layout functions hand a binding to compare with its own. Assumes nothing.
 use Prim.Native.Nat.{ℕ, zero, suc}
 use mathlib.Core.List.{List, [], _∷_, _++_}
-use Rattle.flat.specs.declared.structs.FlatStream.{FlatStream}
-use Rattle.flat.specs.declared.structs.FlatTotals.{FlatTotals}
-use Rattle.flat.specs.declared.structs.FlatStep.{FlatStep}
+use Rattle.udx_c_numbers.specs.declared.structs.FlatStream.{FlatStream}
+use Rattle.udx_c_numbers.specs.declared.structs.FlatTotals.{FlatTotals}
+use Rattle.udx_c_numbers.specs.declared.structs.FlatStep.{FlatStep}
 
 abbrev pub streamFields : FlatStream → List ℕ
 streamFields s =

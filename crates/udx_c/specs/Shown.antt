@@ -8,13 +8,13 @@ use lib.ListN.{length, take, drop}
 use Rattle.model.specs.Lists.{Bytes}
 use Rattle.records.specs.Seen.{Lent}
 use Rattle.udx.specs.Look.{shownOf}
-use Rattle.places.specs.declared.Part.{Part}
-use Rattle.places.specs.Place.{lookedPart}
-use Rattle.flat.specs.declared.structs.FlatStream.{FlatStream}
-use Rattle.flat.specs.declared.structs.FlatTotals.{FlatTotals}
-use Rattle.flat.specs.Bytes.{isStrange}
-use Rattle.flat.specs.Flat.{streamOf, totalsOf}
-use Rattle.udx_c.specs.declared.batches.FlatPart.{FlatPart}
+use Rattle.udx_c_part.specs.declared.Part.{Part}
+use Rattle.udx_c_part.specs.Place.{lookedPart}
+use Rattle.udx_c_numbers.specs.declared.structs.FlatStream.{FlatStream}
+use Rattle.udx_c_numbers.specs.declared.structs.FlatTotals.{FlatTotals}
+use Rattle.udx_c_numbers.specs.Bytes.{isStrange}
+use Rattle.udx_c_numbers.specs.Flat.{streamOf, totalsOf}
+use Rattle.udx_c.specs.declared.look.FlatPart.{FlatPart}
 
 abbrev pub noPart : FlatPart
 noPart = record { start = 0; length = 0; header = 0 }

@@ -3,16 +3,16 @@ ghost use mathlib.Core.Path.{_≡_};
 ghost use mathlib.Core.List.{_++_};
 ghost use lib.ListN.{replicate};
 ghost use Rattle.udx_c.specs.Layout.{streamFields, totalsFields, stepFields, countFrom};
-use flat::FlatClocks;
-use flat::FlatEnding;
-use flat::FlatIds;
-use flat::FlatQueue;
-use flat::FlatReceiver;
-use flat::FlatSender;
-use flat::FlatStep;
-use flat::FlatStream;
-use flat::FlatTiming;
-use flat::FlatTotals;
+use udx_c_numbers::FlatClocks;
+use udx_c_numbers::FlatEnding;
+use udx_c_numbers::FlatIds;
+use udx_c_numbers::FlatQueue;
+use udx_c_numbers::FlatReceiver;
+use udx_c_numbers::FlatSender;
+use udx_c_numbers::FlatStep;
+use udx_c_numbers::FlatStream;
+use udx_c_numbers::FlatTiming;
+use udx_c_numbers::FlatTotals;
 
 #[repr(C)]
 pub struct Numbers {

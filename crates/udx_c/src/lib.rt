@@ -3,26 +3,31 @@
 //
 // No function asks anything of its caller's numbers: a byte that stands for no error, no close state or no flag is a broken record, and
 // the call answers refusal 1.
-mod batches;
-mod codec;
+mod close;
+mod deliver;
+mod drive;
+mod header;
 mod layout;
-mod lifecycle;
-mod transfer;
+mod look;
+mod open;
+mod read;
+mod take;
+mod write;
 
-pub use batches::FlatPart;
-pub use batches::udx_look;
-pub use batches::udx_take;
-pub use codec::FlatDecoded;
-pub use codec::FlatHeader;
-pub use codec::udx_decode;
-pub use codec::udx_encode;
+pub use close::udx_close;
+pub use deliver::udx_deliver;
+pub use drive::udx_drive;
+pub use header::FlatDecoded;
+pub use header::FlatHeader;
+pub use header::udx_decode;
+pub use header::udx_encode;
 pub use layout::Numbers;
 pub use layout::udx_layout_step;
 pub use layout::udx_layout_stream;
 pub use layout::udx_layout_totals;
-pub use lifecycle::udx_close;
-pub use lifecycle::udx_drive;
-pub use lifecycle::udx_open;
-pub use transfer::udx_deliver;
-pub use transfer::udx_read;
-pub use transfer::udx_write;
+pub use look::FlatPart;
+pub use look::udx_look;
+pub use open::udx_open;
+pub use read::udx_read;
+pub use take::udx_take;
+pub use write::udx_write;

@@ -1,7 +1,0 @@
--- A delivery that is not refused, on the records. Assumes nothing.
-use Rattle.error.specs.declared.Outcome.the-variants.{Ready}
-use Rattle.handling.specs.declared.Delivered.{Delivered}
-use Rattle.answers.specs.declared.step.Step.{Step}
-
-abbrev pub deliveredStep : Delivered → Step
-deliveredStep d = record { stream = d .stream; totals = d .totals; outcome = Ready; count = 0; segment = 0 }

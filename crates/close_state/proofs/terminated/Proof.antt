@@ -1,0 +1,11 @@
+-- `close_state::terminated` meets its contract: the state is what `close_local` makes of it, the error the one given.
+-- Assumes nothing.
+use borrow.Author.Needs.{needs}
+use Rattle.close_state.proofs.terminated.Statement.{statement}
+use Rattle.close_state.proofs.terminated.Tie as tie
+
+returns : tie.Need-returns
+returns c = cc
+
+pub terminated-spec : {M : Type 1} → statement M
+terminated-spec = tie.close (tie.spec (λ c κs. search needs) returns)

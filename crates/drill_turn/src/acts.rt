@@ -1,0 +1,366 @@
+// The drill's commands on an end, each with its line.
+ghost use Prim.Native.Nat.{_≤_};
+ghost use lib.ListN.{length};
+use crate::numbers::numbers;
+use constants::HEADER_STORE;
+use constants::INCOMING_STORE;
+use constants::OUTGOING_STORE;
+use drill_broken::SPARE_HEADERS;
+use drill_broken::SPARE_INCOMING;
+use drill_broken::SPARE_OUTGOING;
+use drill_lines::Name;
+use drill_script::Drill;
+use error::Outcome;
+use error::UdxError;
+use packet::Decoded;
+use packet::Header;
+use records::least;
+use rtt::Nanos;
+use session_ends::End;
+use session_kept::KEPT_STORE;
+use session_text::LINE;
+use session_turn::Acted;
+use session_turn::SCRATCH;
+
+// The bytes from a place of a command on, n of them, or none where they are not there.
+fn part(s: &[u8], place: u8, n: u16) -> &[u8] {
+    let at = place as usize;
+    let end = at + n as usize;
+    if end <= s.len() {
+        return &s[at..end];
+    }
+    &s[0..0]
+}
+
+fn raw(
+    e: End,
+    number: u8,
+    clock: Nanos,
+    datagram: &[u8],
+    outgoing: &[u8],
+    incoming: &mut [u8],
+    headers: &mut [u8],
+    line: &mut [u8; LINE],
+) -> Acted
+    ensures { λ r. ⌜ r .len ≤ 8_400 ⌝ }
+{
+    let c = session_ends::deliver(e, datagram, clock, outgoing, incoming, headers);
+    let end = c.end;
+    let outcome = c.outcome;
+    let len = drill_lines::put_line(line, Name::Raw, number, outcome);
+    Acted { end, len }
+}
+
+fn no_error(error: UdxError) -> bool {
+    match error {
+        UdxError::None => true,
+        _ => false,
+    }
+}
+
+fn both(a: bool, b: bool) -> bool {
+    if a { b } else { false }
+}
+
+// Some number from `from` to below `to` is held, of 32 at most.
+fn any_held(held: &[u64; 32], from: u32, to: u32) -> bool {
+    let mut n = from;
+    let mut left: u32 = 32;
+    while 0 < left {
+        if to <= n {
+            return false;
+        }
+        if records::is_held(records::get_held(held, n), n) {
+            return true;
+        }
+        n = std::num::wrapping_add_u32(n, 1);
+        left -= 1;
+    }
+    false
+}
+
+// The end is as one that has just been opened, but for its numbers.
+fn is_empty(e: End) -> bool {
+    let s = e.stream;
+    let held = e.held;
+    let ending = s.ending;
+    let error = ending.error;
+    let a = both(s.queue.count == 0, s.sender.largest_ack == 0);
+    let b = both(e.totals.inflight_packets == 0, no_error(error));
+    let c = s.receiver.ack == s.receiver.read_cursor;
+    if both(a, both(b, c)) {
+        if any_held(&held, s.receiver.read_cursor, s.receiver.top) {
+            return false;
+        }
+        return true;
+    }
+    false
+}
+
+// Nothing is stored, held or queued, so that no word tells of a packet.
+fn based(e: End, seq: u32, ack: u32, window: u32) -> End {
+    let mut s = e.stream;
+    s.sender.seq = seq;
+    s.sender.remote_acked = seq;
+    s.sender.cwnd = window;
+    s.receiver.ack = ack;
+    s.receiver.read_cursor = ack;
+    s.receiver.top = ack;
+    let totals = e.totals;
+    let kept = e.kept;
+    End {
+        stream: s,
+        totals,
+        sent: [0; 64],
+        held: [0; 32],
+        queue: [0; 128],
+        kept,
+    }
+}
+
+fn base(e: End, number: u8, seq: u32, ack: u32, window: u32, line: &mut [u8; LINE]) -> Acted
+    ensures { λ r. ⌜ r .len ≤ 8_400 ⌝ }
+{
+    if both(is_empty(e), 1_400 <= window) {
+        let len = drill_lines::put_line(line, Name::Base, number, Outcome::Ready);
+        return Acted {
+            end: based(e, seq, ack, window),
+            len,
+        };
+    }
+    let len = drill_lines::put_line(line, Name::Base, number, Outcome::Nothing);
+    Acted { end: e, len }
+}
+
+fn is_ready(outcome: Outcome) -> bool {
+    match outcome {
+        Outcome::Ready => true,
+        _ => false,
+    }
+}
+
+// Opens the end anew; its words stay as they are.
+fn open(
+    e: End,
+    number: u8,
+    local: u32,
+    remote: u32,
+    ceiling: u8,
+    clock: Nanos,
+    outgoing: &[u8],
+    incoming: &[u8],
+    headers: &[u8],
+    line: &mut [u8; LINE],
+) -> Acted
+    ensures { λ r. ⌜ r .len ≤ 8_400 ⌝ }
+{
+    let o = udx::open::open(local, remote, ceiling, clock, outgoing, incoming, headers);
+    let outcome = o.outcome;
+    let len = drill_lines::put_line(line, Name::Open, number, outcome);
+    let mut end = e;
+    if is_ready(outcome) {
+        let stream = o.stream;
+        let totals = o.totals;
+        end.stream = stream;
+        end.totals = totals;
+    }
+    Acted { end, len }
+}
+
+// The sum that stands for a batch's bytes.
+fn sum(batch: &[u8]) -> u64 {
+    let mut sum: u64 = 0;
+    let mut i: usize = 0;
+    while i < batch.len() {
+        sum = next_sum(sum, batch[i]);
+        i += 1;
+    }
+    sum
+}
+
+fn next_sum(sum: u64, b: u8) -> u64 {
+    (31 * (sum % 4_294_967_291) + b as u64) % 4_294_967_291
+}
+
+fn room(
+    e: End,
+    number: u8,
+    size: u16,
+    outgoing: &[u8],
+    incoming: &[u8],
+    headers: &[u8],
+    kept: &mut [u8; KEPT_STORE],
+    scratch: &mut [u8],
+    line: &mut [u8; LINE],
+) -> Acted
+    ensures { λ r. ⌜ r .len ≤ 8_400 ⌝ }
+{
+    let c = session_turn::take_and_keep(
+        e,
+        size as usize,
+        outgoing,
+        incoming,
+        headers,
+        kept,
+        scratch,
+    );
+    let n = least(c.count, scratch.len());
+    let total = sum(&scratch[0..n]);
+    let outcome = c.outcome;
+    let len = drill_lines::put_room(
+        line,
+        number,
+        outcome,
+        c.count as u64,
+        c.segment as u64,
+        total,
+    );
+    let end = c.end;
+    Acted { end, len }
+}
+
+fn look<'a>(
+    e: End,
+    number: u8,
+    outgoing: &'a [u8],
+    incoming: &[u8],
+    headers: &'a [u8],
+    line: &mut [u8; LINE],
+) -> Acted
+    ensures { λ r. ⌜ r .len ≤ 8_400 ⌝ }
+{
+    let shown = session_ends::look(e, outgoing, incoming, headers);
+    let n = least(shown.len(), 4_096);
+    let len = drill_lines::put_look(line, number, &shown[0..n]);
+    Acted { end: e, len }
+}
+
+fn encode_into(h: Header, buf: &mut [u8], line: &mut [u8; LINE]) -> usize
+    requires { ⌜ length (now buf) ≤ 64 ⌝ }
+    ensures { λ r. ⌜ r ≤ 8_400 ⌝ }
+{
+    let outcome = h.encode(buf);
+    drill_lines::put_encoded(line, outcome, buf)
+}
+
+// The buffer that an encode writes to, filled with aa before.
+fn encode(size: u8, h: Header, line: &mut [u8; LINE]) -> usize
+    ensures { λ r. ⌜ r ≤ 8_400 ⌝ }
+{
+    let mut buf = [0xaau8; 64];
+    let n = least(size as usize, 64);
+    encode_into(h, &mut buf[0..n], line)
+}
+
+fn decode(bytes: &[u8], line: &mut [u8; LINE]) -> usize
+    ensures { λ r. ⌜ r ≤ 8_400 ⌝ }
+{
+    match Header::from_bytes(bytes) {
+        Decoded::Packet(h) => drill_lines::put_decoded(line, h),
+        Decoded::Refused(why) => drill_lines::put_not_decoded(line, Outcome::Refused(why)),
+    }
+}
+
+// One of the drill's commands, which stands at the front of s.
+pub fn act(
+    e: End,
+    drill: Drill,
+    s: &[u8],
+    outgoing: &mut [u8; OUTGOING_STORE],
+    incoming: &mut [u8; INCOMING_STORE],
+    headers: &mut [u8; HEADER_STORE],
+    kept: &mut [u8; KEPT_STORE],
+    scratch: &mut [u8; SCRATCH],
+    spare_outgoing: &mut [u8; SPARE_OUTGOING],
+    spare_incoming: &mut [u8; SPARE_INCOMING],
+    spare_headers: &mut [u8; SPARE_HEADERS],
+    line: &mut [u8; LINE],
+) -> Acted
+    ensures { λ r. ⌜ r .len ≤ 8_400 ⌝ }
+{
+    match drill {
+        Drill::Raw {
+            end,
+            clock,
+            length: size,
+        } => {
+            let datagram = part(s, 12, size);
+            raw(e, end, clock, datagram, outgoing, incoming, headers, line)
+        }
+        Drill::Base {
+            end,
+            seq,
+            ack,
+            window,
+        } => base(e, end, seq, ack, window, line),
+        Drill::Open {
+            end,
+            local,
+            remote,
+            ceiling,
+            clock,
+        } => open(
+            e,
+            end,
+            local,
+            remote,
+            ceiling,
+            clock,
+            outgoing,
+            incoming,
+            headers,
+            line,
+        ),
+        Drill::Room { end, length: size } => room(
+            e,
+            end,
+            size,
+            outgoing,
+            incoming,
+            headers,
+            kept,
+            scratch,
+            line,
+        ),
+        Drill::Look { end } => look(e, end, outgoing, incoming, headers, line),
+        Drill::Numbers { end } => {
+            let all = numbers(e);
+            let len = drill_lines::put_all_numbers(line, end, &all);
+            Acted { end: e, len }
+        }
+        Drill::Encode {
+            length: size,
+            header,
+        } => {
+            let len = encode(size, header, line);
+            Acted { end: e, len }
+        }
+        Drill::Decode { length: size } => {
+            let len = decode(part(s, 2, size as u16), line);
+            Acted { end: e, len }
+        }
+        Drill::Spoil {
+            end,
+            which,
+            call,
+            clock,
+        } => {
+            let outcome = drill_broken::spoil(
+                e,
+                which,
+                call,
+                clock,
+                outgoing,
+                incoming,
+                headers,
+                spare_outgoing,
+                spare_incoming,
+                spare_headers,
+            );
+            let len = drill_lines::put_line(line, Name::Spoil, end, outcome);
+            Acted { end: e, len }
+        }
+        Drill::Bad => Acted { end: e, len: 0 },
+        Drill::Session => Acted { end: e, len: 0 },
+    }
+}

@@ -1,0 +1,15 @@
+-- `records_words::is_stored` meets its contract: a word with 0 where the length stands is no packet, any other is the packet of its number.
+-- Assumes nothing.
+use borrow.Author.Tests.{eq-eqb, ne-eqb}
+use Rattle.records_words.proofs.is_stored.Statement.{statement}
+use Rattle.records_words.proofs.is_stored.Tie as tie
+
+returns : tie.Need-returns
+returns c = simp (eq-eqb _ _ (c .if1 .taken))
+
+returns-2 : tie.Need-returns-2
+returns-2 c = simp (ne-eqb _ _ (c .before .if1 .left))
+
+pub is-stored-spec : {M : Type 1} → statement M
+is-stored-spec = tie.close (tie.spec
+    returns returns-2)

@@ -1,0 +1,32 @@
+-- An end that is made of a step of `udx` and of the words that it left is that call on the end: its step and its words are those, and
+-- what was kept is the end's. Assumes nothing.
+use Prim.Native.Nat.{ℕ}
+use mathlib.Core.Path.{_≡_, refl}
+use mathlib.Core.List.{List}
+use Rattle.model.specs.Lists.{Bytes}
+use Rattle.model.specs.Stream as model
+use Rattle.model.specs.Answers.{Answer}
+use Rattle.rules_lent.specs.Broken.{lent}
+use Rattle.udx_steps.specs.declared.step.Step.{Step}
+use Rattle.udx.specs.Agree.{Answers}
+use Rattle.udx.specs.Take.{Hands}
+use Rattle.udx.specs.Read.{Gives}
+use Rattle.session_ends.specs.declared.End.{End}
+use Rattle.session_ends.specs.declared.calls.Called.{Called}
+use Rattle.session_ends.specs.Calls.{Stores, lentOf, steppedOf, Calls, Takes, Reads}
+
+module _ (e : End) (b : Stores) (r : Called) (x : Step) (sent held queue : List ℕ) (is : r ≡ steppedOf e x sent held queue) where
+  pub stepped-calls : (call : model.End → Answer) (after : Stores)
+      → Answers call (e .stream) (e .totals) (lentOf e b) x (lent sent held queue (after .outgoing) (after .incoming) (after .headers))
+      → Calls call e b r after
+  stepped-calls call after h = rw is record { answers = h; keeps = refl }
+
+  pub stepped-takes : (buf buf′ : Bytes)
+      → Hands (e .stream) (e .totals) (lentOf e b) buf x (lent sent held queue (b .outgoing) (b .incoming) (b .headers)) buf′
+      → Takes e b buf r buf′
+  stepped-takes buf buf′ h = rw is record { hands = h; keeps = refl }
+
+  pub stepped-reads : (buf buf′ : Bytes)
+      → Gives (e .stream) (e .totals) (lentOf e b) buf x (lent sent held queue (b .outgoing) (b .incoming) (b .headers)) buf′
+      → Reads e b buf r buf′
+  stepped-reads buf buf′ h = rw is record { gives = h; keeps = refl }

@@ -1,0 +1,37 @@
+// Write for C.
+ghost use Rattle.model.specs.Sending as model;
+ghost use Rattle.rules_lent.specs.Broken.{lent};
+ghost use Rattle.udx.specs.Agree.{Answers};
+ghost use Rattle.udx_c.specs.Crosses.{Crosses};
+use udx_c_numbers::FlatStep;
+use udx_c_numbers::FlatStream;
+use udx_c_numbers::FlatTotals;
+use udx_c_numbers::broken_step;
+use udx_c_numbers::flat_step;
+use udx_c_numbers::strange;
+use udx_c_numbers::stream_of;
+use udx_c_numbers::totals_of;
+
+#[no_mangle]
+pub extern "C" fn udx_write(
+    stream: FlatStream,
+    totals: FlatTotals,
+    sent: &mut [u64; 64],
+    held: &[u64; 32],
+    queue: &mut [u64; 128],
+    outgoing: &mut [u8],
+    incoming: &[u8],
+    headers: &[u8],
+    bytes: &[u8],
+) -> FlatStep
+    ensures { λ r. ⌜ Crosses (Answers (model.write (now (bytes .entry)))) stream totals (lent (now (sent .entry)) (now (held .entry)) (now (queue .entry)) (now (outgoing .entry)) (now (incoming .entry)) (now (headers .entry))) r (lent (now (sent .exit)) (now (held .entry)) (now (queue .exit)) (now (outgoing .exit)) (now (incoming .entry)) (now (headers .entry))) ⌝ }
+{
+    let ending = stream.ending;
+    if strange(ending) {
+        return broken_step(stream, totals);
+    }
+    let s = stream_of(stream);
+    let t = totals_of(totals);
+    let r = udx::write::write(s, t, sent, held, queue, outgoing, incoming, headers, bytes);
+    flat_step(r)
+}

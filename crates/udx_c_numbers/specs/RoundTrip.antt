@@ -1,0 +1,13 @@
+-- What a call hands back stands for just the records that it was made from: the next call goes on from there. Assumes nothing.
+use mathlib.Core.Path.{_≡_}
+use mathlib.Core.Bool.{false}
+use Rattle.records.specs.declared.Stream.{Stream}
+use Rattle.records.specs.declared.Totals.{Totals}
+use Rattle.udx_c_numbers.specs.Bytes.{isStrange}
+use Rattle.udx_c_numbers.specs.Flat.{streamOf, totalsOf, flatStream, flatTotals}
+
+pub record ComesBack : Type 0 where
+  pub stream : (s : Stream) → streamOf (flatStream s) ≡ s
+  pub totals : (t : Totals) → totalsOf (flatTotals t) ≡ t
+  -- and no byte of it is strange
+  pub known : (s : Stream) → isStrange (flatStream s .ending) ≡ false

@@ -1,0 +1,44 @@
+// Deliver, with the totals lent.
+ghost use Rattle.model.specs.Receiving as model;
+ghost use Rattle.rules_lent.specs.Broken.{lent};
+ghost use Rattle.udx.specs.Agree.{Answers};
+ghost use Rattle.udx_lent.specs.Whole.{whole};
+use crate::Answer;
+use records::Stream;
+use records::Totals;
+use rtt::Nanos;
+
+pub fn deliver(
+    t: &mut Totals,
+    s: Stream,
+    sent: &mut [u64; 64],
+    held: &mut [u64; 32],
+    queue: &mut [u64; 128],
+    outgoing: &[u8],
+    incoming: &mut [u8],
+    headers: &mut [u8],
+    datagram: &[u8],
+    clock: Nanos,
+) -> Answer
+    ensures { λ r. ⌜ Answers (model.deliver (now (datagram .entry)) (clock .0)) s (now (t .entry)) (lent (now (sent .entry)) (now (held .entry)) (now (queue .entry)) (now (outgoing .entry)) (now (incoming .entry)) (now (headers .entry))) (whole r (now (t .exit))) (lent (now (sent .exit)) (now (held .exit)) (now (queue .exit)) (now (outgoing .entry)) (now (incoming .exit)) (now (headers .exit))) ⌝ }
+{
+    let r = udx::deliver::deliver(
+        s,
+        *t,
+        sent,
+        held,
+        queue,
+        outgoing,
+        incoming,
+        headers,
+        datagram,
+        clock,
+    );
+    *t = r.totals;
+    Answer {
+        stream: r.stream,
+        outcome: r.outcome,
+        count: r.count,
+        segment: r.segment,
+    }
+}
