@@ -18,7 +18,7 @@ use Rattle.records.specs.declared.Totals.{Totals}
 use Rattle.records.specs.Seen.{Lent, seen, formedQueue}
 use Rattle.records.specs.Setters.{withWords}
 use Rattle.close_state.specs.State.{Pushable, withState}
-use Rattle.deliver_data.specs.Layout.{Laid}
+use Rattle.records.specs.Laid.{LaidReceiver}
 use Rattle.deliver_data.specs.Absorbing.{Accepted}
 use Rattle.deliver_parts.specs.declared.Delivered.{Delivered}
 use Rattle.deliver_notes.specs.Numbers.{countedReceived, clockedStream, ackedSender}
@@ -74,6 +74,6 @@ module _ {s : Stream} {t : Totals} {clock : ℕ} {h : Header} {payload : Bytes} 
             ap (onAck h) (y .seen-after (x .pushed .formed (d .formed)) (withDelivered sent′ held′ queue″ incoming′ headers″ l)
             ∙ ap (onData h payload) (x .seen-after (d .formed) (withDelivered sent held queue incoming headers l)));
         formed = y .pushed .formed (x .pushed .formed (d .formed));
-        laid = λ z. y .laid (subst Laid (sym (x .receiver)) z);
+        laid = λ z. y .laid (subst LaidReceiver (sym (x .receiver)) z);
         beside = y .beside;
       }

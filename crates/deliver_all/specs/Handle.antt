@@ -13,7 +13,7 @@ use Rattle.records.specs.declared.Totals.{Totals}
 use Rattle.records.specs.Cut.{incomingSlot}
 use Rattle.records.specs.Seen.{Lent, seen, formedQueue}
 use Rattle.records.specs.Beside.{Stay, heldSize}
-use Rattle.deliver_data.specs.Layout.{Laid}
+use Rattle.records.specs.Laid.{LaidReceiver}
 use Rattle.deliver_parts.specs.declared.Delivered.{Delivered}
 use Rattle.deliver_parts.specs.Steps.{Measured, Pushed, TakesData}
 
@@ -55,6 +55,6 @@ pub record Handled (s : Stream) (t : Totals) (clock : ℕ) (h : Header) (payload
       → seen (r .stream) (r .totals) (withDelivered sent′ held′ queue′ incoming′ headers′ l)
       ≡ handleIncoming clock h payload (seen s t (withDelivered sent held queue incoming headers l))
   pub formed : formedQueue (r .stream .queue) queue′ ≡ true
-  pub laid : Laid (s .receiver) → Laid (r .stream .receiver)
+  pub laid : LaidReceiver (s .receiver) → LaidReceiver (r .stream .receiver)
   -- what the slots hold past their packets stays
   pub beside : Stay incomingSlot (heldSize held′) incoming incoming′

@@ -27,7 +27,7 @@ use Rattle.records.specs.Beside.{Stay, heldSize}
 use Rattle.records_words.proofs.WordLaws.{held-back}
 use Rattle.records.proofs.Cut.{in-is, beyond-same, beyond-other}
 use Rattle.records.proofs.SeenIncoming.{heldIn, withHeld, get-incoming, get-past, clear-one, hold-incoming, hold-next}
-use Rattle.deliver_data.specs.Layout.{Laid}
+use Rattle.records.specs.Laid.{LaidReceiver}
 use Rattle.deliver_data.specs.Absorbing.{Accepted, Cleared, Inserted, Advanced, Absorbed}
 
 -- a gap is cleared
@@ -151,13 +151,13 @@ steps r = (r .«read_cursor» + ceiling) - r .ack
 
 -- so far ack has moved over held numbers only
 pub record Advancing (r : Receiver) (words : List ℕ) (s : Receiver) : Type 0 where
-  pub laid : Laid s
+  pub laid : LaidReceiver s
   pub unread : s .«read_cursor» ≤ s .ack
   pub cursor : s .«read_cursor» ≡ r .«read_cursor»
   pub top : s .top ≡ r .top
   pub seen : (store : Bytes) → advance (steps s) (seenReceiver s words store) ≡ advance (steps r) (seenReceiver r words store)
 
-pub advance-starts : (r : Receiver) (words : List ℕ) → Laid r → r .«read_cursor» ≤ r .ack → Advancing r words r
+pub advance-starts : (r : Receiver) (words : List ℕ) → LaidReceiver r → r .«read_cursor» ≤ r .ack → Advancing r words r
 advance-starts r words l u = record { laid = l; unread = u; cursor = refl; top = refl; seen = λ store. refl }
 
 -- ack is one more

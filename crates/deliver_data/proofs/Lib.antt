@@ -1,3 +1,1 @@
-pub mod LaidLaws
 pub mod AbsorbLaws
-pub mod ReadLaws

@@ -11,7 +11,7 @@ use Rattle.records.specs.declared.Receiver.{Receiver}
 use Rattle.records.specs.Cut.{incomingSlot}
 use Rattle.records.specs.Seen.{seenIncoming, seenReceiver}
 use Rattle.records.specs.Beside.{Stay, heldSize}
-use Rattle.deliver_data.specs.Layout.{Laid}
+use Rattle.records.specs.Laid.{LaidReceiver}
 
 -- DATA that no refusal stops: not 1, "A lent store has another length than above, or a rule of the records is broken" ("read cursor ≤
 -- ack"), not 9, "The payload exceeds 1,380 bytes", not 11, "DATA is numbered 4,294,967,295", not 12, "DATA is numbered at or past read
@@ -20,7 +20,7 @@ pub record Accepted (r : Receiver) (incoming : Bytes) (n : ℕ) (payload : Bytes
   pub store : length incoming ≡ 44_160
   pub short : length payload ≤ 1_380
   pub unread : r .«read_cursor» ≤ r .ack
-  pub laid : Laid r
+  pub laid : LaidReceiver r
   pub below : n < 4_294_967_295
   pub near : n < r .«read_cursor» + ceiling
 
@@ -35,7 +35,7 @@ pub record Inserted (r : Receiver) (held : List ℕ) (incoming : Bytes) (n : ℕ
   pub seen : seenReceiver r′ held′ incoming′ ≡ model.held n payload (seenReceiver r held incoming)
   pub ack : r′ .ack ≡ r .ack
   pub cursor : r′ .«read_cursor» ≡ r .«read_cursor»
-  pub laid : Laid r′
+  pub laid : LaidReceiver r′
   pub beside : Stay incomingSlot (heldSize held′) incoming incoming′
 
 -- while incoming.contains_key(&ack) { ack += 1 }, with the model's count of steps
@@ -50,6 +50,6 @@ pub record Absorbed (r : Receiver) (held : List ℕ) (incoming : Bytes) (n : ℕ
     Type 0 where
   pub seen : seenReceiver r′ held′ incoming′ ≡ model.absorb n payload (seenReceiver r held incoming)
   pub cursor : r′ .«read_cursor» ≡ r .«read_cursor»
-  pub laid : Laid r′
+  pub laid : LaidReceiver r′
   -- what the slots hold past their packets stays
   pub beside : Stay incomingSlot (heldSize held′) incoming incoming′

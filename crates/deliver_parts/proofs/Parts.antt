@@ -27,7 +27,7 @@ use Rattle.close_state.specs.State.{seenEnding, Pushable, StateQueued, withEndi
 use Rattle.close_state.proofs.StatePacket.{state-seen, terminate-seen}
 use Rattle.deliver_acks.specs.declared.Acks.{Acks}
 use Rattle.deliver_acks.specs.Sacks.{AcksBlocks}
-use Rattle.deliver_data.specs.Layout.{Laid}
+use Rattle.records.specs.Laid.{LaidReceiver}
 use Rattle.deliver_data.specs.Absorbing.{Absorbed}
 use Rattle.deliver_parts.specs.declared.Delivered.{Delivered}
 use Rattle.deliver_notes.specs.Numbers.{countedData}

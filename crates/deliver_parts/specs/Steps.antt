@@ -22,7 +22,7 @@ use Rattle.records.specs.Beside.{Stay, heldSize}
 use Rattle.records.specs.Setters.{withQueue, withWords}
 use Rattle.close_state.specs.State.{withState, withEnding}
 use Rattle.deliver_acks.specs.Acked.{SameNumbers}
-use Rattle.deliver_data.specs.Layout.{Laid}
+use Rattle.records.specs.Laid.{LaidReceiver}
 use Rattle.deliver_data.specs.Absorbing.{Accepted}
 use Rattle.deliver_parts.specs.declared.Delivered.{Delivered}
 
@@ -97,5 +97,5 @@ pub record Took (s : Stream) (t : Totals) (h : Header) (payload : Bytes) (held q
       → seen (r .stream) (r .totals) (withData held′ queue′ incoming′ headers′ l) ≡ onData h payload (seen s t (withData held queue incoming headers l))
   pub others : r .stream ≡ withQueue (r .stream .queue) (withReceiver (r .stream .receiver) s)
   pub pushed : Pushed (s .queue) queue (r .stream .queue) queue′ headers′
-  pub laid : Laid (s .receiver) → Laid (r .stream .receiver)
+  pub laid : LaidReceiver (s .receiver) → LaidReceiver (r .stream .receiver)
   pub beside : Stay incomingSlot (heldSize held′) incoming incoming′

@@ -8,3 +8,4 @@ pub mod SeenIncoming
 pub mod SeenQueue
 pub mod SeenFresh
 pub mod FormedQueue
+pub mod LaidLaws

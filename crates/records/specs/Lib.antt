@@ -5,3 +5,4 @@ pub mod Seen
 pub mod Beside
 pub mod Open
 pub mod Setters
+pub mod Laid

@@ -32,7 +32,7 @@ use Rattle.records.specs.declared.Totals.{Totals}
 use Rattle.records.specs.Seen.{Lent, seen, seenQueue}
 use Rattle.records.specs.Open.{storesTest}
 use Rattle.deliver_data.specs.Absorbing.{Accepted}
-use Rattle.deliver_data.proofs.LaidLaws.{laid-said, laid-says}
+use Rattle.records.proofs.LaidLaws.{laid-said, laid-says}
 use Rattle.deliver_parts.specs.declared.Delivered.{Delivered}
 use Rattle.deliver_all.specs.Handle.{Deliverable, Handled, withDelivered}
 use Rattle.udx_steps.specs.Steps.{refusedStep}

@@ -29,9 +29,9 @@ use Rattle.records_words.specs.Words.{heldOf, isHeld}
 use Rattle.records.specs.Seen.{Lent, seen, formedReceiver}
 use Rattle.rules_stream.specs.Ok.{okStream, clocksOk}
 use Rattle.rules_packets.specs.Packets.{okReceiver, okSender, everyFrom, heldOk}
-use Rattle.deliver_data.specs.declared.Read.{Read}
-use Rattle.deliver_data.specs.Reading.{HeldFit, Readable, HasRead}
-use Rattle.deliver_data.proofs.LaidLaws.{laid-said, laid-says}
+use Rattle.read_bytes.specs.declared.Read.{Read}
+use Rattle.read_bytes.specs.Reading.{HeldFit, Readable, HasRead}
+use Rattle.records.proofs.LaidLaws.{laid-said, laid-says}
 use Rattle.udx_steps.specs.Steps.{refusedStep}
 use Rattle.udx.specs.Agree.{onRecords, Agrees}
 use Rattle.rules_lent.specs.Broken.{brokenRecords}

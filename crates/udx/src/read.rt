@@ -1,8 +1,8 @@
 // Read (read_next, poll_read).
 ghost use Rattle.rules_lent.specs.Broken.{lent};
 ghost use Rattle.udx.specs.Read.{Gives};
-use deliver_data::Read;
 use error::Refusal;
+use read_bytes::Read;
 use records::Stream;
 use records::Totals;
 use rules_lent::broken;
@@ -27,6 +27,6 @@ pub fn read(
         return refused(s, t, Refusal::BrokenRecords);
     }
     let receiver = s.receiver;
-    let a = deliver_data::read_next(receiver, held, incoming, buf);
+    let a = read_bytes::read_next(receiver, held, incoming, buf);
     read_step(s, t, a)
 }

@@ -8,7 +8,7 @@ use Rattle.model.specs.Receiving.{read}
 use Rattle.records.specs.declared.Receiver.{Receiver}
 use Rattle.records.specs.declared.Stream.{Stream}
 use Rattle.records.specs.declared.Totals.{Totals}
-use Rattle.deliver_data.specs.declared.Read.{Read}
+use Rattle.read_bytes.specs.declared.Read.{Read}
 use Rattle.udx_steps.specs.declared.step.Step.{Step}
 
 -- 01, call 6: "Ready only if a packet was finished, else the error, else waiting"

@@ -2,10 +2,10 @@
 ghost use mathlib.Core.Path.{_≡_};
 ghost use Rattle.udx_steps.specs.Read.{outcomeOf, readStep};
 use crate::step::Step;
-use deliver_data::Read;
 use error::Outcome;
 use error::UdxError;
 use error::error_or;
+use read_bytes::Read;
 use records::Stream;
 use records::Totals;
 

@@ -1,4 +1,4 @@
--- `Laid` and the test `formedReceiver` mean the same: callers have tested the one, and the contracts here ask and give the other.
+-- `LaidReceiver` and the test `formedReceiver` mean the same: callers have tested the one, and the contracts here ask and give the other.
 -- Assumes nothing.
 use Prim.Native.Nat.{_+_}
 use mathlib.Core.Path.{_≡_}
@@ -7,15 +7,15 @@ use lib.Dec.{leb}
 use borrow.Author.Tests.{le-leb, leb-true}
 use Rattle.model.specs.Slots.{ceiling}
 use Rattle.model.proofs.Gate.{and-left, and-right, and-true}
 use Rattle.records.specs.declared.Receiver.{Receiver}
 use Rattle.records.specs.Seen.{formedReceiver}
-use Rattle.deliver_data.specs.Layout.{Laid}
+use Rattle.records.specs.Laid.{LaidReceiver}
 
 module _ (r : Receiver) where
-  pub laid-said : Laid r → formedReceiver r ≡ true
+  pub laid-said : LaidReceiver r → formedReceiver r ≡ true
   laid-said l = and-true (le-leb (r .«read_cursor») (r .top) (l .from)) (le-leb (r .top) (r .«read_cursor» + ceiling) (l .width))
 
-  pub laid-says : formedReceiver r ≡ true → Laid r
+  pub laid-says : formedReceiver r ≡ true → LaidReceiver r
   laid-says e =
       let a = leb (r .«read_cursor») (r .top) in
       let b = leb (r .top) (r .«read_cursor» + ceiling) in

@@ -5,10 +5,10 @@ use Prim.Native.Nat.{_-_}
 use native.Mathlib.Omega.{arith}
 use mathlib.Core.Path.{_≡_, refl, sym, _∙_}
 use lib.ListN.{length}
-use Rattle.deliver_data.specs.Reading.{Fit}
-use Rattle.deliver_data.proofs.ReadLaws.{Going, read-starts, read-fits, read-turn, read-part, read-at-gap, read-at-top}
-use Rattle.deliver_data.proofs.read_next.Statement.{statement}
-use Rattle.deliver_data.proofs.read_next.Tie as tie
+use Rattle.read_bytes.specs.Reading.{Fit}
+use Rattle.read_bytes.proofs.ReadLaws.{Going, read-starts, read-fits, read-turn, read-part, read-at-gap, read-at-top}
+use Rattle.read_bytes.proofs.read_next.Statement.{statement}
+use Rattle.read_bytes.proofs.read_next.Tie as tie
 
 abbrev Inv-loop : tie.InvT-loop
 Inv-loop held₀ incoming buf₀ size s₀ count₀ finished₀ held buf s count finished =

@@ -25,7 +25,7 @@ use Rattle.records_words.proofs.WordLaws.{held-back, held-number, held-full}
 use Rattle.records.proofs.Cut.{in-is, cut-length, cut-drop}
 use Rattle.records.proofs.Put.{put-length, put-put}
 use Rattle.records.proofs.SeenIncoming.{heldIn, get-incoming, get-past, finish-incoming, offset-incoming}
-use Rattle.deliver_data.specs.Reading.{Fit, Readable, CanPut, Front, HasRead, leftCount, leftBytes, movedBy, got}
+use Rattle.read_bytes.specs.Reading.{Fit, Readable, CanPut, Front, HasRead, leftCount, leftBytes, movedBy, got}
 
 -- a packet's bytes
 

@@ -12,8 +12,8 @@ use Rattle.records.specs.declared.Receiver.{Receiver}
 use Rattle.records_words.specs.Words.{heldOf, heldWord, isHeld}
 use Rattle.records.specs.Put.{put}
 use Rattle.records.specs.Seen.{heldPayload, seenReceiver}
-use Rattle.deliver_data.specs.declared.Read.{Read}
-use Rattle.deliver_data.specs.Layout.{Laid}
+use Rattle.read_bytes.specs.declared.Read.{Read}
+use Rattle.records.specs.Laid.{LaidReceiver}
 
 -- 01, 'Rules of the records': "lengths are .. at most 1,380 held"; "offsets fit the lengths"
 pub record Fit (p : Held) : Type 0 where
@@ -28,7 +28,7 @@ HeldFit r held =
 -- the records that a read may meet: what 01's rules and the layout say of them
 pub record Readable (r : Receiver) (held : List ℕ) (incoming : Bytes) : Type 0 where
   pub store : length incoming ≡ 44_160
-  pub laid : Laid r
+  pub laid : LaidReceiver r
   pub packets : HeldFit r held
 
 -- how many bytes of a packet are left to read, and which
@@ -68,6 +68,6 @@ pub record HasRead (r : Receiver) (held : List ℕ) (incoming buf : Bytes) (a : 
   pub finished : a .finished ≡ got r held incoming buf .ready
   pub copied : buf′ ≡ put buf 0 (got r held incoming buf .bytes)
   pub seen : seenReceiver (a .receiver) held′ incoming ≡ got r held incoming buf .receiver
-  pub laid : Laid (a .receiver)
+  pub laid : LaidReceiver (a .receiver)
   -- a read that finished no packet moved at most a read offset
   pub unmoved : a .finished ≡ false → a .receiver ≡ r

@@ -1,9 +1,9 @@
 -- `deliver_data::put_next` meets its contract: the bytes that lie in the store from the packet's read offset on are those that are left of
 -- it, as many as are asked for. Assumes nothing.
 use borrow.Author.Needs.{needs}
-use Rattle.deliver_data.proofs.ReadLaws.{next-room, next-put}
-use Rattle.deliver_data.proofs.put_next.Statement.{statement}
-use Rattle.deliver_data.proofs.put_next.Tie as tie
+use Rattle.read_bytes.proofs.ReadLaws.{next-room, next-put}
+use Rattle.read_bytes.proofs.put_next.Statement.{statement}
+use Rattle.read_bytes.proofs.put_next.Tie as tie
 
 put-at-requires : tie.Need-put-at-requires
 put-at-requires c κs = next-room (c .before .before .before .before .before .pre) (c .before .payload-bytes .ensures)
