@@ -4,7 +4,7 @@ use Prim.Native.Nat.{ℕ, suc, _+_, _-_, _≤_, _<_, max, min}
 use native.Mathlib.Omega.{arith}
 use mathlib.Core.Path.{_≡_, refl, ap, sym, _∙_}
 use mathlib.Core.List.{List}
-use Rattle.packet.specs.declared.sack.Block.the-variants.{Range, End}
+use Rattle.packet.specs.declared.sack.Block.the-variants.{Range, NoMore}
 use Rattle.packet.specs.Blocks.{Span, blocks, blocksFrom}
 use Rattle.packet_blocks.specs.declared.Next.{Next}
 use Rattle.packet_blocks.specs.Reader.{readAt}
@@ -130,7 +130,7 @@ module _ {clock : ℕ} {payload : Bytes} {a₀ : Acks} {sent₀ : List ℕ} {a :
             ∙ g .goes-on s l;
       }
 
-  pub sack-end : {n : Next} → n ≡ readAt payload at → n .block ≡ End → AcksBlocks clock payload a₀ sent₀ a sent
+  pub sack-end : {n : Next} → n ≡ readAt payload at → n .block ≡ NoMore → AcksBlocks clock payload a₀ sent₀ a sent
   unfolding ackBlocks
   sack-end read is =
       record {

@@ -126,7 +126,7 @@ pub fn handle_incoming_sacks(a: Acks, clock: Nanos, sent: &mut [u64; 64], payloa
                 b = ack_block(b, clock, sent, start, end);
                 at = next.at;
             }
-            Block::End => return b,
+            Block::NoMore => return b,
         }
     }
 }

@@ -22,8 +22,8 @@ use Rattle.records.specs.Laid.{LaidReceiver}
 use Rattle.deliver_data.specs.Absorbing.{Accepted}
 use Rattle.deliver_parts.specs.declared.Delivered.{Delivered}
 use Rattle.deliver_notes.specs.Numbers.{countedReceived, clockedStream, ackedSender}
-use Rattle.deliver_parts.specs.Steps.{withSender, Measured, Sacked, Pushed, Ended, TakesData, withData, Took}
-use Rattle.deliver_all.specs.Handle.{withBegun, begun, Began, Deliverable, withDelivered, Handled}
+use Rattle.deliver_parts.specs.Steps.{withSender, Measured, Sacked, Pushed, Ended, TakesData, withData, TookData}
+use Rattle.deliver_all.specs.Handle.{withBegun, begun, Began, CanDeliver, withDelivered, Handled}
 
 -- a state packet more can follow
 pub pushed-able : {q : Queue} {queue : List ℕ} {q′ : Queue} {queue′ : List ℕ} {headers′ : Bytes} → Pushed q queue q′ queue′ headers′ → q .left ≡ 0 → q .count ≤ 126 → q .states ≤ 62
@@ -55,7 +55,7 @@ module _ (s : Stream) (t : Totals) (clock : ℕ) {h : Header} {payload : Bytes} 
 -- DATA, and the end of it
 
 module _ {s : Stream} {t : Totals} {clock : ℕ} {h : Header} {payload : Bytes} {sent queue : List ℕ} {incoming headers : Bytes}
-    (d : Deliverable s clock h queue incoming headers payload) {b : Delivered} {sent′ queue′ : List ℕ} {headers′ : Bytes}
+    (d : CanDeliver s clock h queue incoming headers payload) {b : Delivered} {sent′ queue′ : List ℕ} {headers′ : Bytes}
     (x : Began s t clock h payload sent queue headers b sent′ queue′ headers′) where
   pub data-able : Pushable (b .stream .queue) (length headers′)
   data-able = pushed-able (x .pushed) (d .rest) (d .queued) (d .places)
@@ -64,7 +64,7 @@ module _ {s : Stream} {t : Totals} {clock : ℕ} {h : Header} {payload : Bytes} 
   data-takes is = subst (λ (r : Receiver). Accepted r incoming (h .seq) payload) (sym (x .receiver)) (d .takes is)
 
   pub handles : {held : List ℕ} {e : Delivered} {held′ queue″ : List ℕ} {incoming′ headers″ : Bytes}
-      → Took (b .stream) (b .totals) h payload held queue′ incoming headers′ e held′ queue″ incoming′ headers″
+      → TookData (b .stream) (b .totals) h payload held queue′ incoming headers′ e held′ queue″ incoming′ headers″
       → Handled s t clock h payload sent held queue incoming headers
       (record { stream = withSender (ackedSender (e .stream .sender) (h .ack)) (e .stream .timing) (e .stream); totals = e .totals }) sent′ held′ queue″ incoming′ headers″
   unfolding handleIncoming seen

@@ -35,7 +35,7 @@ pub record Began (s : Stream) (t : Totals) (clock : ℕ) (h : Header) (payload :
   pub pushed : Pushed (s .queue) queue (r .stream .queue) queue′ headers′
 
 -- what 01's rules and the refusals of a delivery give; two state packets may follow
-pub record Deliverable (s : Stream) (clock : ℕ) (h : Header) (queue : List ℕ) (incoming headers payload : Bytes) : Type 0 where
+pub record CanDeliver (s : Stream) (clock : ℕ) (h : Header) (queue : List ℕ) (incoming headers payload : Bytes) : Type 0 where
   pub measured : Measured s clock
   pub whole : length headers ≡ 1_280
   pub rest : s .queue .left ≡ 0

@@ -2,7 +2,7 @@
 ghost use lib.ListN.{length};
 ghost use Rattle.close_state.specs.State.{Pushable};
 ghost use Rattle.deliver_parts.specs.Steps.{Measured};
-ghost use Rattle.deliver_all.specs.Handle.{Began, Deliverable, Handled};
+ghost use Rattle.deliver_all.specs.Handle.{Began, CanDeliver, Handled};
 use deliver_notes::clocked;
 use deliver_notes::counted_received;
 use deliver_notes::on_ack;
@@ -50,7 +50,7 @@ pub fn handle_incoming(
     headers: &mut [u8],
     payload: &[u8],
 ) -> Delivered
-    requires { ⌜ Deliverable s (clock .0) h (now queue) (now incoming) (now headers) (now payload) ⌝ }
+    requires { ⌜ CanDeliver s (clock .0) h (now queue) (now incoming) (now headers) (now payload) ⌝ }
     ensures { λ r. ⌜ Handled s t (clock .0) h (now (payload .entry)) (now (sent .entry)) (now (held .entry)) (now (queue .entry)) (now (incoming .entry)) (now (headers .entry)) r (now (sent .exit)) (now (held .exit)) (now (queue .exit)) (now (incoming .exit)) (now (headers .exit)) ⌝ }
 {
     let b = before_data(s, t, clock, h, sent, queue, headers, payload);

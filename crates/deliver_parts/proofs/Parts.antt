@@ -31,7 +31,7 @@ use Rattle.records.specs.Laid.{LaidReceiver}
 use Rattle.deliver_data.specs.Absorbing.{Absorbed}
 use Rattle.deliver_parts.specs.declared.Delivered.{Delivered}
 use Rattle.deliver_notes.specs.Numbers.{countedData}
-use Rattle.deliver_parts.specs.Steps.{withSender, withReceiver, Sacked, Pushed, Ended, withData, Took}
+use Rattle.deliver_parts.specs.Steps.{withSender, withReceiver, Sacked, Pushed, Ended, withData, TookData}
 
 -- SACK blocks
 
@@ -103,7 +103,7 @@ module _ (s : Stream) (t : Totals) (h : Header) (payload : Bytes) (held queue : 
       → Absorbed (s .receiver) held incoming (h .seq) payload r held′ incoming′
       → counted ≡ countedData t (length payload)
       → StateQueued (s .queue) counted (s .ending .error) (s .ids .remote) (s .sender .seq) (r .ack) queue headers k queue′ headers′
-      → Took s t h payload held queue incoming headers (record { stream = withQueue (k .queue) (withReceiver r s); totals = k .totals }) held′ queue′ incoming′ headers′
+      → TookData s t h payload held queue incoming headers (record { stream = withQueue (k .queue) (withReceiver r s); totals = k .totals }) held′ queue′ incoming′ headers′
   unfolding onData seen countData
   took is {r} {counted} {held′ = held′} {incoming′ = incoming′} a c x =
       record {
@@ -117,7 +117,7 @@ module _ (s : Stream) (t : Totals) (h : Header) (payload : Bytes) (held queue : 
         beside = a .beside;
       }
 
-  pub not-taken : hasType 1 (h .typ) ≡ false → length headers ≡ 1_280 → Took s t h payload held queue incoming headers (record { stream = s; totals = t }) held queue incoming headers
+  pub not-taken : hasType 1 (h .typ) ≡ false → length headers ≡ 1_280 → TookData s t h payload held queue incoming headers (record { stream = s; totals = t }) held queue incoming headers
   unfolding onData
   not-taken is whole =
       record { seen-after = λ f l. rw is refl; others = refl; pushed = pushed-none (s .queue) queue headers whole; laid = λ z. z; beside = λ i l. refl }

@@ -91,7 +91,7 @@ abbrev pub withData : (held queue : List ℕ) → (incoming headers : Bytes) →
 withData held queue incoming headers l =
     record { sent = l .sent; held = held; queue = queue; outgoing = l .outgoing; incoming = incoming; headers = headers }
 
-pub record Took (s : Stream) (t : Totals) (h : Header) (payload : Bytes) (held queue : List ℕ) (incoming headers : Bytes) (r : Delivered) (held′ queue′ : List ℕ)
+pub record TookData (s : Stream) (t : Totals) (h : Header) (payload : Bytes) (held queue : List ℕ) (incoming headers : Bytes) (r : Delivered) (held′ queue′ : List ℕ)
     (incoming′ headers′ : Bytes) : Type 0 where
   pub seen-after : formedQueue (s .queue) queue ≡ true → (l : Lent)
       → seen (r .stream) (r .totals) (withData held′ queue′ incoming′ headers′ l) ≡ onData h payload (seen s t (withData held queue incoming headers l))

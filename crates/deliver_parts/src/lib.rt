@@ -1,7 +1,7 @@
 // What a datagram does by its types, one part each: SACK blocks, END, DATA (handle_incoming).
 ghost use lib.ListN.{length};
 ghost use Rattle.close_state.specs.State.{Pushable};
-ghost use Rattle.deliver_parts.specs.Steps.{Measured, Sacked, Ended, TakesData, Took};
+ghost use Rattle.deliver_parts.specs.Steps.{Measured, Sacked, Ended, TakesData, TookData};
 use deliver_acks::Acks;
 use deliver_notes::counted_data;
 use error::UdxError;
@@ -104,7 +104,7 @@ pub fn on_data(
     payload: &[u8],
 ) -> Delivered
     requires { ⌜ Pushable (s .queue) (length (now headers)) × TakesData s h (now incoming) (now payload) ⌝ }
-    ensures { λ r. ⌜ Took s t h (now (payload .entry)) (now (held .entry)) (now (queue .entry)) (now (incoming .entry)) (now (headers .entry)) r (now (held .exit)) (now (queue .exit)) (now (incoming .exit)) (now (headers .exit)) ⌝ }
+    ensures { λ r. ⌜ TookData s t h (now (payload .entry)) (now (held .entry)) (now (queue .entry)) (now (incoming .entry)) (now (headers .entry)) r (now (held .exit)) (now (queue .exit)) (now (incoming .exit)) (now (headers .exit)) ⌝ }
 {
     let mut stream = s;
     if h.is_data() {

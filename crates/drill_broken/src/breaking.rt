@@ -8,7 +8,7 @@ use records::Timing;
 use records::Totals;
 use rtt::Nanos;
 use rtt::Rtt;
-use session_ends::End;
+use session_ends::SessionEnd;
 use std::num::wrapping_add_u32;
 use std::num::wrapping_add_u64;
 use std::num::wrapping_sub_u32;
@@ -104,7 +104,7 @@ fn totals(t: Totals, which: u8) -> Totals {
 }
 
 // The numbers of an end with thing `which` broken; 0 to 6 break none of them.
-pub fn broken(e: End, which: u8) -> End {
+pub fn broken(e: SessionEnd, which: u8) -> SessionEnd {
     let mut s = e.stream;
     let i = ids(s.ids, which);
     s.ids = i;

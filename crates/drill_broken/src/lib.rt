@@ -12,7 +12,7 @@ use error::Outcome;
 use packet::Header;
 use rtt::Nanos;
 use session_ends::Called;
-use session_ends::End;
+use session_ends::SessionEnd;
 
 pub const SPARE_OUTGOING: usize = 44_801;
 
@@ -31,14 +31,14 @@ fn opened(clock: Nanos, outgoing: &[u8], incoming: &[u8], headers: &[u8]) -> Out
     outcome
 }
 
-fn taken(e: End, outgoing: &[u8], incoming: &[u8], headers: &[u8]) -> Outcome {
+fn taken(e: SessionEnd, outgoing: &[u8], incoming: &[u8], headers: &[u8]) -> Outcome {
     let mut buf = [0u8; 14_000];
     outcome_of(session_ends::take(e, outgoing, incoming, headers, &mut buf))
 }
 
 // A datagram that carries nothing: type 0, the end's id, and all else 0.
 fn delivered(
-    e: End,
+    e: SessionEnd,
     clock: Nanos,
     outgoing: &[u8],
     incoming: &mut [u8],
@@ -56,12 +56,12 @@ fn delivered(
     outcome_of(session_ends::deliver(e, &datagram, clock, outgoing, incoming, headers))
 }
 
-fn was_read(e: End, outgoing: &[u8], incoming: &[u8], headers: &[u8]) -> Outcome {
+fn was_read(e: SessionEnd, outgoing: &[u8], incoming: &[u8], headers: &[u8]) -> Outcome {
     let mut buf = [0u8; 16];
     outcome_of(session_ends::read(e, outgoing, incoming, headers, &mut buf))
 }
 
-fn looked<'a>(e: End, outgoing: &'a [u8], incoming: &[u8], headers: &'a [u8]) -> Outcome {
+fn looked<'a>(e: SessionEnd, outgoing: &'a [u8], incoming: &[u8], headers: &'a [u8]) -> Outcome {
     let shown = session_ends::look(e, outgoing, incoming, headers);
     if shown.len() == 0 {
         Outcome::Nothing
@@ -72,7 +72,7 @@ fn looked<'a>(e: End, outgoing: &'a [u8], incoming: &[u8], headers: &'a [u8]) ->
 
 // Call 0 to 7 on an end.
 fn call(
-    e: End,
+    e: SessionEnd,
     which: u8,
     clock: Nanos,
     outgoing: &mut [u8],
@@ -108,7 +108,7 @@ fn spoilt(which: u8, short: u8, long: u8, size: usize) -> usize
 
 // The call on an end whose stores have these lengths.
 fn call_over(
-    e: End,
+    e: SessionEnd,
     which: u8,
     number: u8,
     clock: Nanos,
@@ -139,7 +139,7 @@ fn copy_store(store: &[u8], spare: &mut [u8]) {
 
 // Call `number` with thing `which` broken.
 pub fn spoil(
-    e: End,
+    e: SessionEnd,
     which: u8,
     number: u8,
     clock: Nanos,

@@ -70,7 +70,7 @@ fn run_next(
             );
             report(tally, c, answer, m, line)
         }
-        Next::End => reporting::ended(tally, false),
+        Next::NoMore => reporting::ended(tally, false),
         Next::Broken => reporting::ended(tally, true),
     }
 }

@@ -7,7 +7,7 @@ pub enum Next {
         script: usize,
         answer: usize,
     },
-    End,
+    NoMore,
     Broken,
 }
 
@@ -30,7 +30,7 @@ pub fn read_next(fd: i32, script: &mut [u8], answer: &mut [u8]) -> Next {
     let mut head = [0u8; 9];
     let got = io::read_full(fd, &mut head);
     if got == 0 {
-        return Next::End;
+        return Next::NoMore;
     }
     if got != 9 {
         return Next::Broken;

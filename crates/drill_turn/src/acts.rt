@@ -16,7 +16,7 @@ use packet::Decoded;
 use packet::Header;
 use records::least;
 use rtt::Nanos;
-use session_ends::End;
+use session_ends::SessionEnd;
 use session_kept::KEPT_STORE;
 use session_text::LINE;
 use session_turn::Acted;
@@ -33,7 +33,7 @@ fn part(s: &[u8], place: u8, n: u16) -> &[u8] {
 }
 
 fn raw(
-    e: End,
+    e: SessionEnd,
     number: u8,
     clock: Nanos,
     datagram: &[u8],
@@ -80,7 +80,7 @@ fn any_held(held: &[u64; 32], from: u32, to: u32) -> bool {
 }
 
 // The end is as one that has just been opened, but for its numbers.
-fn is_empty(e: End) -> bool {
+fn is_empty(e: SessionEnd) -> bool {
     let s = e.stream;
     let held = e.held;
     let ending = s.ending;
@@ -98,7 +98,7 @@ fn is_empty(e: End) -> bool {
 }
 
 // Nothing is stored, held or queued, so that no word tells of a packet.
-fn based(e: End, seq: u32, ack: u32, window: u32) -> End {
+fn based(e: SessionEnd, seq: u32, ack: u32, window: u32) -> SessionEnd {
     let mut s = e.stream;
     s.sender.seq = seq;
     s.sender.remote_acked = seq;
@@ -108,7 +108,7 @@ fn based(e: End, seq: u32, ack: u32, window: u32) -> End {
     s.receiver.top = ack;
     let totals = e.totals;
     let kept = e.kept;
-    End {
+    SessionEnd {
         stream: s,
         totals,
         sent: [0; 64],
@@ -118,7 +118,7 @@ fn based(e: End, seq: u32, ack: u32, window: u32) -> End {
     }
 }
 
-fn base(e: End, number: u8, seq: u32, ack: u32, window: u32, line: &mut [u8; LINE]) -> Acted
+fn base(e: SessionEnd, number: u8, seq: u32, ack: u32, window: u32, line: &mut [u8; LINE]) -> Acted
     ensures { λ r. ⌜ r .len ≤ 8_400 ⌝ }
 {
     if both(is_empty(e), 1_400 <= window) {
@@ -141,7 +141,7 @@ fn is_ready(outcome: Outcome) -> bool {
 
 // Opens the end anew; its words stay as they are.
 fn open(
-    e: End,
+    e: SessionEnd,
     number: u8,
     local: u32,
     remote: u32,
@@ -183,7 +183,7 @@ fn next_sum(sum: u64, b: u8) -> u64 {
 }
 
 fn room(
-    e: End,
+    e: SessionEnd,
     number: u8,
     size: u16,
     outgoing: &[u8],
@@ -220,7 +220,7 @@ fn room(
 }
 
 fn look<'a>(
-    e: End,
+    e: SessionEnd,
     number: u8,
     outgoing: &'a [u8],
     incoming: &[u8],
@@ -263,7 +263,7 @@ fn decode(bytes: &[u8], line: &mut [u8; LINE]) -> usize
 
 // One of the drill's commands, which stands at the front of s.
 pub fn act(
-    e: End,
+    e: SessionEnd,
     drill: Drill,
     s: &[u8],
     outgoing: &mut [u8; OUTGOING_STORE],

@@ -3,7 +3,7 @@ use error::UdxError;
 use records::Ending;
 use records::Queue;
 use records::StreamState;
-use session_ends::End;
+use session_ends::SessionEnd;
 
 fn error_number(error: UdxError) -> u64 {
     match error {
@@ -46,7 +46,7 @@ fn entries(q: Queue) -> u64 {
     }
 }
 
-pub fn numbers(e: End) -> [u64; 22] {
+pub fn numbers(e: SessionEnd) -> [u64; 22] {
     let s = e.stream;
     let sender = s.sender;
     let receiver = s.receiver;

@@ -21,11 +21,11 @@ use Rattle.drive_drain.specs.Draining.{LeavesToTake}
 use Rattle.drive_settle.specs.declared.Polled.{Polled}
 use Rattle.drive_settle.specs.Settling.{Acked, Settled}
 use Rattle.drive_timeouts.specs.Timeouts.{Checkable, withPolled, Checked}
-use Rattle.drive_all.specs.Poll.{drivenAt, Drivable, Begun, Flushable, Flushes, Polls}
+use Rattle.drive_all.specs.Poll.{drivenAt, CanDrive, Begun, Flushable, PollFlushes, Polls}
 
 -- settling and timeouts
 
-module _ {s : Stream} {clock : ℕ} {sent queue : List ℕ} {headers : Bytes} (d : Drivable s clock sent queue headers) where
+module _ {s : Stream} {clock : ℕ} {sent queue : List ℕ} {headers : Bytes} (d : CanDrive s clock sent queue headers) where
   pub driven-acked : Acked (drivenAt clock s) clock
   driven-acked =
       let a = d .acked in
@@ -79,7 +79,7 @@ module _ {s : Stream} {clock : ℕ} {sent queue : List ℕ} {headers : Bytes} (d
 
 pub flushes : {s : Stream} {sent queue : List ℕ} {f : Flushed} {sent′ queue′ : List ℕ} {left : Queue} → Flushable s sent queue
     → waiting.Flushes (s .sender) (s .queue) sent queue f sent′ queue′ → length queue′ ≡ 128 → LeavesToTake (f .queue) left
-    → Flushes s sent queue (waiting.withFlushed (f .sender) left s) sent′ queue′
+    → PollFlushes s sent queue (waiting.withFlushed (f .sender) left s) sent′ queue′
 flushes {s} {sent} {queue} {f} {sent′} {queue′} w x long y =
     let formed = x .formed (w .formed) in
     let fits : f .queue .count ≤ length queue′ = omega (arith, formed .count) in
@@ -94,7 +94,7 @@ flushes {s} {sent} {queue} {f} {sent′} {queue′} w x long y =
 -- the whole
 
 pub polls : {s : Stream} {t : Totals} {clock : ℕ} {sent queue : List ℕ} {headers : Bytes} {b : Polled} {sent′ queue′ : List ℕ} {headers′ : Bytes}
-    → Begun s t clock sent queue headers b sent′ queue′ headers′ → {r : Stream} {sent″ queue″ : List ℕ} → Flushes (b .stream) sent′ queue′ r sent″ queue″
+    → Begun s t clock sent queue headers b sent′ queue′ headers′ → {r : Stream} {sent″ queue″ : List ℕ} → PollFlushes (b .stream) sent′ queue′ r sent″ queue″
     → Polls s t clock sent queue headers (record { stream = r; totals = b .totals }) sent″ queue″ headers′
 unfolding drive.pollDrive
 polls {sent = sent} {queue} {headers} {b} {sent′} {queue′} {headers′} x {r} {sent″} {queue″} y =

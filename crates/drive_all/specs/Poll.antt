@@ -10,7 +10,7 @@ use Rattle.model.specs.Driving as drive
 use Rattle.records.specs.declared.Stream.{Stream}
 use Rattle.records.specs.declared.Totals.{Totals}
 use Rattle.records.specs.Seen.{Lent, seen, formedQueue, QueueFormed}
-use Rattle.drive_lost.specs.Packets.{Stored}
+use Rattle.drive_lost.specs.Packets.{AllSentBounds}
 use Rattle.drive_flush.specs.Flushing.{withQueued}
 use Rattle.drive_settle.specs.declared.Polled.{Polled}
 use Rattle.drive_settle.specs.Settling.{Acked}
@@ -31,9 +31,9 @@ drivenAt clock s =
 
 -- what 01's rules and the refusals of a drive give: with nothing left to take the queue has at most 63 state packets and a packet for each
 -- number, so that one state packet more and every number once more still fit
-pub record Drivable (s : Stream) (clock : ℕ) (sent queue : List ℕ) (headers : Bytes) : Type 0 where
+pub record CanDrive (s : Stream) (clock : ℕ) (sent queue : List ℕ) (headers : Bytes) : Type 0 where
   pub acked : Acked s clock
-  pub stored : Stored (s .sender) sent
+  pub stored : AllSentBounds (s .sender) sent
   pub whole : length headers ≡ 1_280
   pub rest : s .queue .left ≡ 0
   pub queued : s .queue .count ≤ 95
@@ -42,7 +42,7 @@ pub record Drivable (s : Stream) (clock : ℕ) (sent queue : List ℕ) (headers 
 
 -- what flushing needs
 pub record Flushable (s : Stream) (sent queue : List ℕ) : Type 0 where
-  pub stored : Stored (s .sender) sent
+  pub stored : AllSentBounds (s .sender) sent
   pub rest : s .queue .left ≡ 0
   pub room : s .queue .count + (s .sender .seq - s .sender .«remote_acked») ≤ 128
   pub formed : QueueFormed (s .queue) queue
@@ -57,7 +57,7 @@ pub record Begun (s : Stream) (t : Totals) (clock : ℕ) (sent queue : List ℕ)
   pub whole : length headers′ ≡ 1_280
 
 -- 01, call 4: "Then waiting packets are queued ascending until inflight + length exceeds the window", and what is queued is left to take
-pub record Flushes (s : Stream) (sent queue : List ℕ) (r : Stream) (sent′ queue′ : List ℕ) : Type 0 where
+pub record PollFlushes (s : Stream) (sent queue : List ℕ) (r : Stream) (sent′ queue′ : List ℕ) : Type 0 where
   pub seen-after : (t : Totals) (l : Lent) → seen r t (withQueued sent′ queue′ l) ≡ drive.leftToTake (drive.flush (seen s t (withQueued sent queue l)))
   pub receiver : r .receiver ≡ s .receiver
   pub formed : QueueFormed (r .queue) queue′

@@ -1,6 +1,6 @@
 // A whole drive (poll_drive).
 ghost use mathlib.Core.Path.{_≡_};
-ghost use Rattle.drive_all.specs.Poll.{drivenAt, Drivable, Begun, Flushable, Flushes, Polls};
+ghost use Rattle.drive_all.specs.Poll.{drivenAt, CanDrive, Begun, Flushable, PollFlushes, Polls};
 use drive_settle::Polled;
 use drive_settle::handle_incoming_max_remote_ack;
 use drive_timeouts::poll_check_timeouts;
@@ -31,7 +31,7 @@ fn before_flush(
     queue: &mut [u64; 128],
     headers: &mut [u8],
 ) -> Polled
-    requires { ⌜ Drivable s (clock .0) (now sent) (now queue) (now headers) ⌝ }
+    requires { ⌜ CanDrive s (clock .0) (now sent) (now queue) (now headers) ⌝ }
     ensures { λ r. ⌜ Begun s t (clock .0) (now (sent .entry)) (now (queue .entry)) (now (headers .entry)) r (now (sent .exit)) (now (queue .exit)) (now (headers .exit)) ⌝ }
 {
     let stream = clocked(s, clock);
@@ -44,7 +44,7 @@ fn before_flush(
 // Waiting packets are queued, and what is queued is left to take.
 fn flush(s: Stream, sent: &mut [u64; 64], queue: &mut [u64; 128]) -> Stream
     requires { ⌜ Flushable s (now sent) (now queue) ⌝ }
-    ensures { λ r. ⌜ Flushes s (now (sent .entry)) (now (queue .entry)) r (now (sent .exit)) (now (queue .exit)) ⌝ }
+    ensures { λ r. ⌜ PollFlushes s (now (sent .entry)) (now (queue .entry)) r (now (sent .exit)) (now (queue .exit)) ⌝ }
 {
     let before = s.sender;
     let q = s.queue;
@@ -68,7 +68,7 @@ pub fn poll_drive(
     queue: &mut [u64; 128],
     headers: &mut [u8],
 ) -> Polled
-    requires { ⌜ Drivable s (clock .0) (now sent) (now queue) (now headers) ⌝ }
+    requires { ⌜ CanDrive s (clock .0) (now sent) (now queue) (now headers) ⌝ }
     ensures { λ r. ⌜ Polls s t (clock .0) (now (sent .entry)) (now (queue .entry)) (now (headers .entry)) r (now (sent .exit)) (now (queue .exit)) (now (headers .exit)) ⌝ }
 {
     let b = before_flush(s, t, clock, sent, queue, headers);

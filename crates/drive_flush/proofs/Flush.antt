@@ -27,7 +27,7 @@ use Rattle.records.proofs.Cut.{cut-length}
 use Rattle.records.proofs.SeenOutgoing.{get-outgoing}
 use Rattle.records.proofs.SeenQueue.{queue-packet}
 use Rattle.records.proofs.FormedQueue.{formed-packet}
-use Rattle.drive_lost.specs.Packets.{Stored, withInflight}
+use Rattle.drive_lost.specs.Packets.{AllSentBounds, withInflight}
 use Rattle.drive_flush.specs.Flushing.{flushedPacket, flushedEntry, withCount, flushedOf, FlushesPacket, Roomy, Flushes}
 use Rattle.drive_lost.proofs.Remark.{transmits-fit, remark-length, remark-seen, stored-again}
 
@@ -89,7 +89,7 @@ pub record Going (s : Sender) (q : Queue) (sent₀ queue₀ sent queue : List �
   pub sent-long : length sent ≡ 64
   pub queue-long : length queue ≡ 128
   pub low : s .«remote_acked» ≤ n
-  pub stored : Stored s sent
+  pub stored : AllSentBounds s sent
   pub rest : q .left ≡ 0
   pub room : count + (s .seq - n) ≤ 128
   pub formed : QueueFormed q queue₀ → QueueFormed (withCount count q) queue

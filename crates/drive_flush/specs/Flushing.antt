@@ -14,7 +14,7 @@ use Rattle.records.specs.declared.Totals.{Totals}
 use Rattle.records_words.specs.Words.{entryWord}
 use Rattle.records.specs.Seen.{Lent, seen, QueueFormed, withSent}
 use Rattle.drive_flush.specs.declared.Flushed.{Flushed}
-use Rattle.drive_lost.specs.Packets.{Stored, withInflight}
+use Rattle.drive_lost.specs.Packets.{AllSentBounds, withInflight}
 
 -- one packet
 
@@ -60,7 +60,7 @@ withQueued sent queue l =
 -- place for each number. A queue at rest has at most 63 state packets and one entry for each of 32 numbers, and TimedOut adds a state
 -- packet: 32 places are left.
 pub record Roomy (s : Sender) (q : Queue) (sent : List ℕ) : Type 0 where
-  pub stored : Stored s sent
+  pub stored : AllSentBounds s sent
   pub rest : q .left ≡ 0
   pub room : q .count + (s .seq - s .«remote_acked») ≤ 128
 

@@ -20,7 +20,7 @@ use Rattle.records_words.specs.Words.{sentOf, sentIn, sentWord, sentTime, isSto
 use Rattle.records.specs.Seen.{marksOf, packetOf, seenOutgoing, withSent}
 use Rattle.records_words.proofs.WordLaws.{sent-back, stored-number, stored-full}
 use Rattle.records.proofs.SeenOutgoing.{remark-outgoing}
-use Rattle.drive_lost.specs.Packets.{Within, Stored}
+use Rattle.drive_lost.specs.Packets.{SentBounds, AllSentBounds}
 
 -- what a word says fits a word again
 
@@ -62,7 +62,7 @@ module _ (words : List ℕ) (long : length words ≡ 64) (n : ℕ) (p : Sent) wh
   pub remark-length : length (withSent words n p) ≡ 64
   remark-length = simp length-set long
 
-module _ (s : Sender) (sent : List ℕ) (long : length sent ≡ 64) (stored : Stored s sent) (n : ℕ) (low : s .«remote_acked» ≤ n) (high : n < s .seq)
+module _ (s : Sender) (sent : List ℕ) (long : length sent ≡ 64) (stored : AllSentBounds s sent) (n : ℕ) (low : s .«remote_acked» ≤ n) (high : n < s .seq)
     (here : isStored (sentIn sent (n % ceiling)) n ≡ true) (fits : n < 2 ^ 32) (waiting : Bool) (transmits : ℕ) (few : transmits < 32) where
   -- the packet of n, and with other marks
   abbrev old : Sent
@@ -71,7 +71,7 @@ module _ (s : Sender) (sent : List ℕ) (long : length sent ≡ 64) (stored : St
   abbrev new : Sent
   new = marking waiting transmits old
 
-  within : Within new
+  within : SentBounds new
   within = let w = stored n low high here in record { short = w .short; early = w .early }
 
   back : sentOf (sentWord new) (sentTime new) ≡ new
@@ -87,10 +87,10 @@ module _ (s : Sender) (sent : List ℕ) (long : length sent ≡ 64) (stored : St
   remark-seen outgoing f e =
       remark-outgoing (s .«remote_acked») sent long n new (stored-number old n here) (stored-full old n here) back low (s .seq) outgoing f high refl e
 
-  pub stored-again : Stored s (withSent sent n new)
+  pub stored-again : AllSentBounds s (withSent sent n new)
   stored-again m low′ high′ is = go (eqb (m % ceiling) (n % ceiling)) refl
     where
-      go : (b : Bool) → eqb (m % ceiling) (n % ceiling) ≡ b → Within (sentIn (withSent sent n new) (m % ceiling))
+      go : (b : Bool) → eqb (m % ceiling) (n % ceiling) ≡ b → SentBounds (sentIn (withSent sent n new) (m % ceiling))
       go true e = rw (eqb-true (m % ceiling) (n % ceiling) e, slot-same sent long n new, back) within
       go false e =
           let same = slot-other sent long n new (m % ceiling) (omega arith) (eqb-false (m % ceiling) (n % ceiling) e) in

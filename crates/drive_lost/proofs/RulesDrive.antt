@@ -1,4 +1,4 @@
--- What drive's loops need of the stored packets is what 01's rules give: records whose end keeps the rules are `Stored`. Assumes nothing.
+-- What drive's loops need of the stored packets is what 01's rules give: records whose end keeps the rules are `AllSentBounds`. Assumes nothing.
 use Prim.Native.Nat.{ℕ, _%_, _^_, _≤_, _<_}
 use native.Mathlib.Omega.{arith}
 use mathlib.Core.Path.{_≡_, refl, _∙_, ap}
@@ -15,7 +15,7 @@ use Rattle.records_words.specs.Words.{sentIn}
 use Rattle.records.specs.Seen.{marksOf, packetOf, Lent, seen}
 use Rattle.records.proofs.Cut.{cut-length}
 use Rattle.records.proofs.SeenOutgoing.{get-outgoing}
-use Rattle.drive_lost.specs.Packets.{Stored}
+use Rattle.drive_lost.specs.Packets.{AllSentBounds}
 use Rattle.drive_lost.proofs.Remark.{untimed}
 
 -- "neither a time sent .. is past the last clock, which is below 2^60"; without one it is 0
@@ -27,7 +27,7 @@ early p zero last fits h = go (p .timed) refl
     go false e = let z = zero e in omega arith
 
 module _ (st : Stream) (t : Totals) (l : Lent) (kept : rules (seen st t l) ≡ true) where
-  pub rules-stored : Stored (st .sender) (l .sent)
+  pub rules-stored : AllSentBounds (st .sender) (l .sent)
   unfolding seen
   rules-stored n low high is =
       let q = sentIn (l .sent) (n % ceiling) in

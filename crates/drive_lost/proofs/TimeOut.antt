@@ -25,8 +25,8 @@ use Rattle.records.specs.Seen.{marksOf, packetOf, seen, seenSender, withSent}
 use Rattle.records_words.proofs.WordLaws.{stored-number}
 use Rattle.records.proofs.Cut.{cut-length}
 use Rattle.records.proofs.SeenOutgoing.{get-outgoing}
-use Rattle.drive_lost.specs.Packets.{Stored, withInflight}
-use Rattle.drive_lost.specs.Timeouts.{lostPacket, TimesOut}
+use Rattle.drive_lost.specs.Packets.{AllSentBounds, withInflight}
+use Rattle.drive_lost.specs.Timeouts.{lostPacket, TimesOutPackets}
 use Rattle.drive_lost.proofs.Remark.{remark-length, remark-seen, stored-again}
 
 -- a turn of the model's loop
@@ -95,12 +95,12 @@ module _ (s : Sender) (sent : List ℕ) (n : ℕ) (low : s .«remote_acked» ≤
 pub record Going (s : Sender) (sent₀ sent : List ℕ) (inflight n : ℕ) : Type 0 where
   pub long : length sent ≡ 64
   pub low : s .«remote_acked» ≤ n
-  pub stored : Stored s sent
+  pub stored : AllSentBounds s sent
   pub same : (outgoing : Bytes) (e : model.End)
       → timeOutLoop (s .seq - n) n (seenOf (withInflight inflight s) sent outgoing e)
       ≡ timeOutLoop (s .seq - s .«remote_acked») (s .«remote_acked») (seenOf s sent₀ outgoing e)
 
-pub starts : (s : Sender) (sent : List ℕ) → Stored s sent → length sent ≡ 64 → Going s sent sent (s .inflight) (s .«remote_acked»)
+pub starts : (s : Sender) (sent : List ℕ) → AllSentBounds s sent → length sent ≡ 64 → Going s sent sent (s .inflight) (s .«remote_acked»)
 starts s sent stored long = record { long = long; low = omega arith; stored = stored; same = λ outgoing e. refl }
 
 module _ {s : Sender} {sent₀ sent : List ℕ} {inflight n : ℕ} (g : Going s sent₀ sent inflight n) where
@@ -108,7 +108,7 @@ module _ {s : Sender} {sent₀ sent : List ℕ} {inflight n : ℕ} (g : Going s 
   over : (failed : Bool)
       → ((outgoing : Bytes) (e : model.End)
       → record { failed = failed; end = seenOf (withInflight inflight s) sent outgoing e } ≡ timeOutLoop (s .seq - n) n (seenOf (withInflight inflight s) sent outgoing e))
-      → TimesOut s sent₀ (record { sender = withInflight inflight s; failed = failed }) sent
+      → TimesOutPackets s sent₀ (record { sender = withInflight inflight s; failed = failed }) sent
   unfolding seen
   over failed h =
       record {
@@ -117,7 +117,7 @@ module _ {s : Sender} {sent₀ sent : List ℕ} {inflight n : ℕ} (g : Going s 
         stored = g .stored;
       }
 
-  pub ends : s .seq ≤ n → TimesOut s sent₀ (record { sender = withInflight inflight s; failed = false }) sent
+  pub ends : s .seq ≤ n → TimesOutPackets s sent₀ (record { sender = withInflight inflight s; failed = false }) sent
   unfolding timeOutLoop
   ends h =
       let none : s .seq - n ≡ 0 = omega arith in
@@ -153,7 +153,7 @@ module _ {s : Sender} {sent₀ sent : List ℕ} {inflight n : ℕ} (g : Going s 
       sent-on : packet .waiting ≡ false
       sent-on = not-true (packet .waiting) (and-right (isStored packet n) (not (packet .waiting)) h)
 
-      pub ends-failed : 5 < packet .transmits → TimesOut s sent₀ (record { sender = withInflight inflight s; failed = true }) sent
+      pub ends-failed : 5 < packet .transmits → TimesOutPackets s sent₀ (record { sender = withInflight inflight s; failed = true }) sent
       ends-failed many =
           let k : s .seq - n ≡ suc (s .seq - (n + 1)) = omega arith in
           over true

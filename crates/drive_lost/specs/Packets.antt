@@ -13,13 +13,13 @@ use Rattle.records.specs.Seen.{Lent}
 
 -- 01, 'Rules of the records': "lengths are 21 to 1,400 stored"; "neither a time sent nor the last drive's clock is past the last clock,
 -- which is below 2^60"
-pub record Within (p : Sent) : Type 0 where
+pub record SentBounds (p : Sent) : Type 0 where
   pub short : p .length ≤ 1_400
   pub early : p .«sent_at» .0 < 2 ^ 60
 
 -- the same of every stored packet, from remote acked to below seq
-abbrev pub Stored : Sender → List ℕ → Type 0
-Stored s sent = (n : ℕ) → s .«remote_acked» ≤ n → n < s .seq → isStored (sentIn sent (n % ceiling)) n ≡ true → Within (sentIn sent (n % ceiling))
+abbrev pub AllSentBounds : Sender → List ℕ → Type 0
+AllSentBounds s sent = (n : ℕ) → s .«remote_acked» ≤ n → n < s .seq → isStored (sentIn sent (n % ceiling)) n ≡ true → SentBounds (sentIn sent (n % ceiling))
 
 abbrev pub withInflight : ℕ → Sender → Sender
 withInflight inflight s =

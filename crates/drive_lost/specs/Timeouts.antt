@@ -11,7 +11,7 @@ use Rattle.records.specs.declared.Totals.{Totals}
 use Rattle.records.specs.Seen.{Lent, seen}
 use Rattle.records.specs.Setters.{withWords}
 use Rattle.drive_lost.specs.declared.timeouts.Passed.{Passed}
-use Rattle.drive_lost.specs.Packets.{Stored, withInflight, withSender}
+use Rattle.drive_lost.specs.Packets.{AllSentBounds, withInflight, withSender}
 
 -- 01, call 4: "gains a transmit, waits"
 abbrev pub lostPacket : Sent → Sent
@@ -20,7 +20,7 @@ lostPacket p =
 
 -- 01, call 4: "each stored packet not waiting, ascending, fails with TimedOut if transmits exceeds 5, else gains a transmit, waits and
 -- leaves inflight" (the loop of poll_check_timeouts)
-pub record TimesOut (s : Sender) (sent : List ℕ) (r : Passed) (sent′ : List ℕ) : Type 0 where
+pub record TimesOutPackets (s : Sender) (sent : List ℕ) (r : Passed) (sent′ : List ℕ) : Type 0 where
   -- for any stream with this sender and these words: whether one failed, and the end, are the model's
   pub end : (st : Stream) (t : Totals) (l : Lent)
       → record { failed = r .failed; end = seen (withSender (r .sender) st) t (withWords sent′ l) }
@@ -28,4 +28,4 @@ pub record TimesOut (s : Sender) (sent : List ℕ) (r : Passed) (sent′ : List 
   -- inflight alone differs
   pub numbers : r .sender ≡ withInflight (r .sender .inflight) s
   -- the stored packets keep the rules that they are read by
-  pub stored : Stored (r .sender) sent′
+  pub stored : AllSentBounds (r .sender) sent′

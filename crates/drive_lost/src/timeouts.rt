@@ -3,8 +3,8 @@ ghost use mathlib.Core.Path.{_≡_};
 ghost use mathlib.Core.Bool.{_&&_, not};
 ghost use Prim.Native.Nat.{_≤_};
 ghost use Rattle.records_words.specs.Words.{isStored};
-ghost use Rattle.drive_lost.specs.Packets.{Stored};
-ghost use Rattle.drive_lost.specs.Timeouts.{lostPacket, TimesOut};
+ghost use Rattle.drive_lost.specs.Packets.{AllSentBounds};
+ghost use Rattle.drive_lost.specs.Timeouts.{lostPacket, TimesOutPackets};
 use crate::inflight::with_inflight;
 use constants::UDX_MAX_TRANSMITS;
 use picks::less;
@@ -48,8 +48,8 @@ fn lost_packet(p: Sent) -> Sent
 // The stored packets that do not wait, ascending: each gains a transmit, waits and leaves inflight, up to the first that has no transmit
 // left. Those before it keep their marks.
 pub fn time_out_packets(s: Sender, sent: &mut [u64; 64]) -> Passed
-    requires { ⌜ Stored s (now sent) ⌝ }
-    ensures { λ r. ⌜ TimesOut s (now (sent .entry)) r (now (sent .exit)) ⌝ }
+    requires { ⌜ AllSentBounds s (now sent) ⌝ }
+    ensures { λ r. ⌜ TimesOutPackets s (now (sent .entry)) r (now (sent .exit)) ⌝ }
 {
     word_count(sent);
     let mut inflight = s.inflight;

@@ -28,7 +28,7 @@ use Rattle.records.proofs.Cut.{cut-length}
 use Rattle.records.proofs.SeenOutgoing.{outgoing-length, get-outgoing}
 use Rattle.deliver_acks.specs.declared.Acks.{Acks}
 use Rattle.deliver_acks.specs.Acked.{InWindow, withAcks}
-use Rattle.drive_lost.specs.Packets.{Within, Stored}
+use Rattle.drive_lost.specs.Packets.{SentBounds, AllSentBounds}
 use Rattle.drive_lost.proofs.Remark.{untimed}
 use Rattle.drive_settle.specs.declared.Polled.{Polled}
 use Rattle.drive_settle.specs.Settling.{noAckSender, SettlesOne, Settleable, Settles, withTimed, Restarts, Settled}
@@ -110,7 +110,7 @@ time-within p q unset same early = go (p .timed) (q .timed) refl same
 module _ (s : Sender) (sent : List ℕ) (r : Sender) (sent′ : List ℕ) (seq : r .seq ≡ s .seq) (moved : s .«remote_acked» ≤ r .«remote_acked»)
     (came : (m : ℕ) (p : model.Packet) → get (seenOutgoing (r .«remote_acked») (r .seq) sent′ []) m ≡ some p
     → get (seenOutgoing (s .«remote_acked») (s .seq) sent []) m ≡ some p) where
-  pub stays-stored : Stored s sent → Stored r sent′
+  pub stays-stored : AllSentBounds s sent → AllSentBounds r sent′
   stays-stored stored m low high is = go (isStored old m) refl
     where
       old : Sent
@@ -131,7 +131,7 @@ module _ (s : Sender) (sent : List ℕ) (r : Sender) (sent′ : List ℕ) (seq :
       is-old : cond (isStored old m) (some (packetOf [] (m % ceiling) old)) none ≡ some (packetOf [] (m % ceiling) new)
       is-old = sym (get-outgoing (s .«remote_acked») (s .seq) sent [] m above below) ∙ was
 
-      go : (b : Bool) → isStored old m ≡ b → Within new
+      go : (b : Bool) → isStored old m ≡ b → SentBounds new
       go true e =
           let w = stored m above below e in
           let same : packetOf [] (m % ceiling) old ≡ packetOf [] (m % ceiling) new =

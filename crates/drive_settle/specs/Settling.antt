@@ -14,7 +14,7 @@ use Rattle.records.specs.Setters.{withWords}
 use Rattle.deliver_acks.specs.declared.Acks.{Acks}
 use Rattle.deliver_acks.specs.Acked.{withAcks}
 use Rattle.drive_timer.specs.Timer.{timingSeen}
-use Rattle.drive_lost.specs.Packets.{Stored}
+use Rattle.drive_lost.specs.Packets.{AllSentBounds}
 use Rattle.drive_settle.specs.declared.Polled.{Polled}
 
 -- remote_acked += 1
@@ -84,4 +84,4 @@ pub record Settled (s : Stream) (t : Totals) (clock : ℕ) (sent : List ℕ) (r 
   pub moved : s .sender .«remote_acked» ≤ r .stream .sender .«remote_acked»
   pub range : InRange (r .stream .timing .rtt)
   -- the packets that stay keep the rules that they are read by
-  pub stored : Stored (s .sender) sent → Stored (r .stream .sender) sent′
+  pub stored : AllSentBounds (s .sender) sent → AllSentBounds (r .stream .sender) sent′

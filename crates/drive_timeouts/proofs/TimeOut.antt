@@ -23,13 +23,13 @@ use Rattle.close_state.specs.declared.Queued.{Queued}
 use Rattle.close_state.specs.State.{seenEnding, Pushable, StateQueued, withEnding, withState}
 use Rattle.close_state.proofs.StatePacket.{terminate-seen}
 use Rattle.drive_lost.specs.declared.timeouts.Passed.{Passed}
-use Rattle.drive_lost.specs.Packets.{Stored}
+use Rattle.drive_lost.specs.Packets.{AllSentBounds}
 use Rattle.drive_timer.specs.Timer.{timingSeen, IsDue, Shrinks}
 use Rattle.drive_lost.specs.Timeouts as pass
 use Rattle.drive_settle.specs.declared.Polled.{Polled}
 use Rattle.drive_timeouts.specs.declared.Lost.{Lost}
 use Rattle.drive_settle.specs.Settling.{withTimed}
-use Rattle.drive_timeouts.specs.Timeouts.{Losable, Loses, OneMore, TimesOut, withPolled, Checked}
+use Rattle.drive_timeouts.specs.Timeouts.{Losable, Loses, OneMoreEntry, TimesOutStream, withPolled, Checked}
 
 -- the packets that are considered lost
 
@@ -40,14 +40,14 @@ module _ {s : Sender} {r : Sender} (x : Shrinks s r) where
   shrunk-acked : r .«remote_acked» ≡ s .«remote_acked»
   shrunk-acked = ap (λ (z : model.Sender). z .remoteAcked) (x .seen [] [])
 
-pub shrunk-stored : {s : Stream} {clock : ℕ} {sent : List ℕ} {r : Sender} → Losable s clock sent → Shrinks (s .sender) r → Stored r sent
+pub shrunk-stored : {s : Stream} {clock : ℕ} {sent : List ℕ} {r : Sender} → Losable s clock sent → Shrinks (s .sender) r → AllSentBounds r sent
 shrunk-stored w x n low high is =
     let seq = shrunk-seq x in
     let acked = shrunk-acked x in
     w .stored n (omega arith) (omega arith) is
 
 pub loses : (s : Stream) (clock : ℕ) (sent : List ℕ) (later : Timing) (smaller : Sender) (p : Passed) (sent′ : List ℕ)
-    → timingSeen later ≡ drive.backedOff clock (timingSeen (s .timing)) → Shrinks (s .sender) smaller → pass.TimesOut smaller sent p sent′
+    → timingSeen later ≡ drive.backedOff clock (timingSeen (s .timing)) → Shrinks (s .sender) smaller → pass.TimesOutPackets smaller sent p sent′
     → Loses s clock sent (record { stream = withTimed (p .sender) later s; failed = p .failed }) sent′
 unfolding seen
 loses s clock sent later smaller p sent′ backs shrinks x =
@@ -74,7 +74,7 @@ module _ {s : Stream} {clock : ℕ} {sent : List ℕ} {lost : Lost} {sent′ : L
 module _ (s : Stream) (t : Totals) (queue : List ℕ) (headers : Bytes) where
   pub times-out : (ending : Ending) {k : Queued} {queue′ : List ℕ} {headers′ : Bytes} → seenEnding ending ≡ failed error.TimedOut (seenEnding (s .ending))
       → StateQueued (s .queue) t (ending .error) (s .ids .remote) (s .sender .seq) (s .receiver .ack) queue headers k queue′ headers′
-      → TimesOut s t queue headers (record { stream = withQueue (k .queue) (withEnding ending s); totals = k .totals }) queue′ headers′
+      → TimesOutStream s t queue headers (record { stream = withQueue (k .queue) (withEnding ending s); totals = k .totals }) queue′ headers′
   times-out ending ends x =
       let count = ap (λ (q : Queue). q .count) (x .places) in
       record {
@@ -86,12 +86,12 @@ module _ (s : Stream) (t : Totals) (queue : List ℕ) (headers : Bytes) where
 
 -- the whole check
 
-pub no-more : (q : Queue) (queue : List ℕ) (headers : Bytes) → length headers ≡ 1_280 → OneMore q queue q queue headers
+pub no-more : (q : Queue) (queue : List ℕ) (headers : Bytes) → length headers ≡ 1_280 → OneMoreEntry q queue q queue headers
 no-more q queue headers whole = record { left = refl; count = omega arith; formed = λ f. f; whole = whole }
 
 module _ (s : Stream) (t : Totals) (clock : ℕ) (sent queue : List ℕ) (headers : Bytes) where
   -- not due
-  pub checks-nothing : length headers ≡ 1_280 → Stored (s .sender) sent → IsDue (s .timing) clock (s .sender) false
+  pub checks-nothing : length headers ≡ 1_280 → AllSentBounds (s .sender) sent → IsDue (s .timing) clock (s .sender) false
       → Checked s t clock sent queue headers (record { stream = s; totals = t }) sent queue headers
   unfolding drive.checkTimeouts
   checks-nothing whole stored is =
@@ -125,11 +125,11 @@ module _ (s : Stream) (t : Totals) (clock : ℕ) (sent queue : List ℕ) (header
           seq = x .seq;
           acked = x .acked;
           stored = x .stored;
-          more = subst (λ (q : Queue). OneMore (s .queue) queue q queue headers) (sym (queue-same x)) (no-more (s .queue) queue headers whole);
+          more = subst (λ (q : Queue). OneMoreEntry (s .queue) queue q queue headers) (sym (queue-same x)) (no-more (s .queue) queue headers whole);
         }
 
     -- one failed
-    pub checks-failed : lost .failed ≡ true → {r : Polled} {queue′ : List ℕ} {headers′ : Bytes} → TimesOut (lost .stream) t queue headers r queue′ headers′
+    pub checks-failed : lost .failed ≡ true → {r : Polled} {queue′ : List ℕ} {headers′ : Bytes} → TimesOutStream (lost .stream) t queue headers r queue′ headers′
         → Checked s t clock sent queue headers r sent′ queue′ headers′
     checks-failed fails {r} {queue′} {headers′} y =
         record {
@@ -140,6 +140,6 @@ module _ (s : Stream) (t : Totals) (clock : ℕ) (sent queue : List ℕ) (header
           receiver = ap (λ (z : Stream). z .receiver) (y .others) ∙ ap (λ (z : Stream). z .receiver) (x .others);
           seq = ap (λ (z : Stream). z .sender .seq) (y .others) ∙ x .seq;
           acked = ap (λ (z : Stream). z .sender .«remote_acked») (y .others) ∙ x .acked;
-          stored = subst (λ (z : Sender). Stored z sent′) (sym (ap (λ (z : Stream). z .sender) (y .others))) (x .stored);
-          more = subst (λ (q : Queue). OneMore q queue (r .stream .queue) queue′ headers′) (queue-same x) (y .more);
+          stored = subst (λ (z : Sender). AllSentBounds z sent′) (sym (ap (λ (z : Stream). z .sender) (y .others))) (x .stored);
+          more = subst (λ (q : Queue). OneMoreEntry q queue (r .stream .queue) queue′ headers′) (queue-same x) (y .more);
         }

@@ -15,7 +15,7 @@ use Rattle.records.specs.declared.Totals.{Totals}
 use Rattle.records.specs.Seen.{Lent, seen, formedQueue}
 use Rattle.records.specs.Setters.{withQueue, withWords}
 use Rattle.close_state.specs.State.{Pushable, withEnding, withState}
-use Rattle.drive_lost.specs.Packets.{Stored}
+use Rattle.drive_lost.specs.Packets.{AllSentBounds}
 use Rattle.drive_settle.specs.declared.Polled.{Polled}
 use Rattle.drive_timeouts.specs.declared.Lost.{Lost}
 use Rattle.drive_settle.specs.Settling.{withTimed}
@@ -24,7 +24,7 @@ use Rattle.drive_settle.specs.Settling.{withTimed}
 pub record Losable (s : Stream) (clock : ℕ) (sent : List ℕ) : Type 0 where
   pub rto : s .timing .rtt .rto .0 ≤ 5 * 2 ^ 60
   pub early : clock < 2 ^ 60
-  pub stored : Stored (s .sender) sent
+  pub stored : AllSentBounds (s .sender) sent
 
 -- 01, call 4: "deadline = now + 2 × rto, the window becomes max(1,400, half), and each stored packet not waiting, ascending, fails with
 -- TimedOut if transmits exceeds 5, else gains a transmit, waits and leaves inflight"
@@ -35,21 +35,21 @@ pub record Loses (s : Stream) (clock : ℕ) (sent : List ℕ) (r : Lost) (sent�
   pub others : r .stream ≡ withTimed (r .stream .sender) (r .stream .timing) s
   pub seq : r .stream .sender .seq ≡ s .sender .seq
   pub acked : r .stream .sender .«remote_acked» ≡ s .sender .«remote_acked»
-  pub stored : Stored (r .stream .sender) sent′
+  pub stored : AllSentBounds (r .stream .sender) sent′
 
 -- one entry more at most, and the queue stays as it is laid out
-pub record OneMore (q : Queue) (queue : List ℕ) (q′ : Queue) (queue′ : List ℕ) (headers′ : Bytes) : Type 0 where
+pub record OneMoreEntry (q : Queue) (queue : List ℕ) (q′ : Queue) (queue′ : List ℕ) (headers′ : Bytes) : Type 0 where
   pub left : q′ .left ≡ q .left
   pub count : q′ .count ≤ q .count + 1
   pub formed : formedQueue q queue ≡ true → formedQueue q′ queue′ ≡ true
   pub whole : length headers′ ≡ 1_280
 
 -- 01, call 4: "TimedOut terminates as in terminate"
-pub record TimesOut (s : Stream) (t : Totals) (queue : List ℕ) (headers : Bytes) (r : Polled) (queue′ : List ℕ) (headers′ : Bytes) : Type 0 where
+pub record TimesOutStream (s : Stream) (t : Totals) (queue : List ℕ) (headers : Bytes) (r : Polled) (queue′ : List ℕ) (headers′ : Bytes) : Type 0 where
   pub seen-after : formedQueue (s .queue) queue ≡ true → (l : Lent)
       → seen (r .stream) (r .totals) (withState queue′ headers′ l) ≡ terminate error.TimedOut (seen s t (withState queue headers l))
   pub others : r .stream ≡ withQueue (r .stream .queue) (withEnding (r .stream .ending) s)
-  pub more : OneMore (s .queue) queue (r .stream .queue) queue′ headers′
+  pub more : OneMoreEntry (s .queue) queue (r .stream .queue) queue′ headers′
 
 -- what the whole check needs: a place for the state packet too
 pub record Checkable (s : Stream) (clock : ℕ) (sent : List ℕ) (headers : Bytes) : Type 0 where
@@ -68,5 +68,5 @@ pub record Checked (s : Stream) (t : Totals) (clock : ℕ) (sent queue : List �
   pub receiver : r .stream .receiver ≡ s .receiver
   pub seq : r .stream .sender .seq ≡ s .sender .seq
   pub acked : r .stream .sender .«remote_acked» ≡ s .sender .«remote_acked»
-  pub stored : Stored (r .stream .sender) sent′
-  pub more : OneMore (s .queue) queue (r .stream .queue) queue′ headers′
+  pub stored : AllSentBounds (r .stream .sender) sent′
+  pub more : OneMoreEntry (s .queue) queue (r .stream .queue) queue′ headers′

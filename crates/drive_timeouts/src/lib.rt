@@ -1,7 +1,7 @@
 // Timeouts (poll_check_timeouts): a due timer backs off, halves the window and considers the packets lost; one without a transmit left
 // ends the stream.
 ghost use Rattle.close_state.specs.State.{Pushable};
-ghost use Rattle.drive_timeouts.specs.Timeouts.{Losable, Loses, TimesOut, Checkable, Checked};
+ghost use Rattle.drive_timeouts.specs.Timeouts.{Losable, Loses, TimesOutStream, Checkable, Checked};
 ghost use lib.ListN.{length};
 use drive_settle::Polled;
 use error::UdxError;
@@ -38,7 +38,7 @@ fn consider_lost(s: Stream, clock: Nanos, sent: &mut [u64; 64]) -> Lost
 // "TimedOut terminates as in terminate"
 fn timed_out(s: Stream, t: Totals, queue: &mut [u64; 128], headers: &mut [u8]) -> Polled
     requires { ⌜ Pushable (s .queue) (length (now headers)) ⌝ }
-    ensures { λ r. ⌜ TimesOut s t (now (queue .entry)) (now (headers .entry)) r (now (queue .exit)) (now (headers .exit)) ⌝ }
+    ensures { λ r. ⌜ TimesOutStream s t (now (queue .entry)) (now (headers .entry)) r (now (queue .exit)) (now (headers .exit)) ⌝ }
 {
     let before = s.ending;
     let ending = close_state::terminated(before, UdxError::TimedOut);

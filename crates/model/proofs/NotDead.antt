@@ -372,10 +372,10 @@ all-left clock e z = subst (λ (x : End). x .queue .left ≡ length (x .queue .e
 -- what waits
 
 -- a full store whose numbers are in range, with this seq
-abbrev Within : ℕ → End → Type 0
-Within seq e = record { slots : length (e .sender .outgoing) ≡ ceiling; seq-is : e .sender .seq ≡ seq; ranged : Ranged e }
+abbrev InRange : ℕ → End → Type 0
+InRange seq e = record { slots : length (e .sender .outgoing) ≡ ceiling; seq-is : e .sender .seq ≡ seq; ranged : Ranged e }
 
-within-settled : (seq clock : ℕ) (e : End) → Within seq e → Within seq (settleOne clock e)
+within-settled : (seq clock : ℕ) (e : End) → InRange seq e → InRange seq (settleOne clock e)
 unfolding ackNumber
 within-settled seq clock e h = go (get (e .sender .outgoing) acked) refl
   where
@@ -383,7 +383,7 @@ within-settled seq clock e h = go (get (e .sender .outgoing) acked) refl
     acked = e .sender .remoteAcked
 
     Q : End → Type 0
-    Q x = Within seq (withSender (settled (x .sender)) x)
+    Q x = InRange seq (withSender (settled (x .sender)) x)
 
     go : (o : Option Packet) → get (e .sender .outgoing) acked ≡ o → Q (on o e (λ p. handleRemoteAck clock acked p e))
     go none z =
@@ -407,8 +407,8 @@ within-settled seq clock e h = go (get (e .sender .outgoing) acked) refl
         }
 
 -- a stored packet gets other marks
-within-marked : (seq : ℕ) (f : Marks → Marks) (n inflight : ℕ) (p : Packet) (e : End) → get (e .sender .outgoing) n ≡ some p → Within seq e
-    → Within seq (withSender (remarked n inflight f p (e .sender)) e)
+within-marked : (seq : ℕ) (f : Marks → Marks) (n inflight : ℕ) (p : Packet) (e : End) → get (e .sender .outgoing) n ≡ some p → InRange seq e
+    → InRange seq (withSender (remarked n inflight f p (e .sender)) e)
 within-marked seq f n inflight p e z h =
     record {
       slots = insert-length (e .sender .outgoing) n (marked f p) ∙ h .slots;
@@ -420,12 +420,12 @@ within-marked seq f n inflight p e z h =
     go m q (inl (d, y)) = let (a, b) = h .ranged n p z in (omega arith, omega arith)
     go m q (inr (d, y)) = h .ranged m q y
 
-within-timeouts : (seq clock : ℕ) (e : End) → Within seq e → Within seq (checkTimeouts clock e)
+within-timeouts : (seq clock : ℕ) (e : End) → InRange seq e → InRange seq (checkTimeouts clock e)
 unfolding checkTimeouts
 within-timeouts seq clock e h =
     let t = timeOutLoop (e .sender .seq - e .sender .remoteAcked) (e .sender .remoteAcked) (dueEnd clock e) in
-    let b = by-passed (Within seq) (λ n p x z h. within-marked seq lostMarks n (x .sender .inflight - length (p .bytes)) p x z h) (e .sender .seq - e .sender .remoteAcked) (e .sender .remoteAcked) (dueEnd clock e) h in
-    by-test (Within seq) (due clock e) (timeOutEnd t) e (λ d. by-test (Within seq) (t .failed) (terminate error.TimedOut (t .end)) (t .end) (λ f. b) (λ f. b)) (λ d. h)
+    let b = by-passed (InRange seq) (λ n p x z h. within-marked seq lostMarks n (x .sender .inflight - length (p .bytes)) p x z h) (e .sender .seq - e .sender .remoteAcked) (e .sender .remoteAcked) (dueEnd clock e) h in
+    by-test (InRange seq) (due clock e) (timeOutEnd t) e (λ d. by-test (InRange seq) (t .failed) (terminate error.TimedOut (t .end)) (t .end) (λ f. b) (λ f. b)) (λ d. h)
 
 -- no packet below m waits
 abbrev WaitsFrom : ℕ → End → Type 0
@@ -477,7 +477,7 @@ flush-stops (suc k) m e l h = go (get (e .sender .outgoing) m) refl (λ x l h. s
             by (inl (d, x)) = absurd (true≢false (sym v ∙ ap (λ (y : Packet). y .marks .waiting) (sym x)))
             by (inr (d, x)) = let a = h n q x v in omega arith
 
-flush-waits : (seq : ℕ) (e : End) → Within seq e → (n : ℕ) (p : Packet) → get ((flush e) .sender .outgoing) n ≡ some p → p .marks .waiting ≡ true → NotDead.NoRoom (flush e)
+flush-waits : (seq : ℕ) (e : End) → InRange seq e → (n : ℕ) (p : Packet) → get ((flush e) .sender .outgoing) n ≡ some p → p .marks .waiting ≡ true → NotDead.NoRoom (flush e)
 unfolding flush
 flush-waits seq e h n p g w = go (flush-stops count (e .sender .remoteAcked) e (h .slots) (λ n p g w. h .ranged n p g .0))
   where
@@ -488,7 +488,7 @@ flush-waits seq e h n p g w = go (flush-stops count (e .sender .remoteAcked) e (
         → NotDead.NoRoom (flushLoop count (e .sender .remoteAcked) e)
     go (inr r) = r
     go (inl f) =
-        let y = by-flushed (Within seq) (λ n p x z h. within-marked seq flushedMarks n (x .sender .inflight + length (p .bytes)) p x z h) count (e .sender .remoteAcked) e h in
+        let y = by-flushed (InRange seq) (λ n p x z h. within-marked seq flushedMarks n (x .sender .inflight + length (p .bytes)) p x z h) count (e .sender .remoteAcked) e h in
         let (a, b) = y .ranged n p g in
         let c = f n p g w in
         let d = y .seq-is in
@@ -504,7 +504,7 @@ waits-for-room clock e l z =
     (λ n p g w.
     left-to-take (flush-waits (e .sender .seq) (checkTimeouts clock (settle clock (driveClock clock e)))
     (within-timeouts (e .sender .seq) clock (settle clock (driveClock clock e))
-    (by-settled (Within (e .sender .seq)) clock (within-settled (e .sender .seq) clock) (e .sender .largestAck - e .sender .remoteAcked) (driveClock clock e)
+    (by-settled (InRange (e .sender .seq)) clock (within-settled (e .sender .seq) clock) (e .sender .largestAck - e .sender .remoteAcked) (driveClock clock e)
     (record { slots = l; seq-is = refl; ranged = ruled-ranged e (driven-rules clock e clear) })))
     n p g w))
   where

@@ -21,15 +21,15 @@ use Rattle.model.specs.Driving.{look}
 use Rattle.model.specs.Calls.{Call, writeCall, deliverCall, driveCall, takeCall, readCall, closeCall, answer, after}
 
 -- a line of the session: outcome, count and bytes read
-pub record Line : Type 0 where
+pub record SessionLine : Type 0 where
   pub outcome : Outcome
   pub count : ℕ
   pub bytes : Bytes
 
-abbrev line : Outcome → ℕ → Bytes → Line
+abbrev line : Outcome → ℕ → Bytes → SessionLine
 line o n bytes = record { outcome = o; count = n; bytes = bytes }
 
-abbrev lineOf : Answer → Line
+abbrev lineOf : Answer → SessionLine
 lineOf a = line (a .outcome) (a .count) (a .bytes)
 
 abbrev pub aaa : Bytes
@@ -64,11 +64,11 @@ abbrev sack : Bytes
 sack = datagramOf 4 1 0 0 (1 ∷ 0 ∷ 0 ∷ 0 ∷ 2 ∷ 0 ∷ 0 ∷ 0 ∷ 0 ∷ [])
 
 -- the line of each call, with the end that it leaves handed on
-abbrev linesOf : List Call → End → List Line
+abbrev linesOf : List Call → End → List SessionLine
 linesOf [] e = []
 linesOf (c ∷ cs) e = let a = answer c e in lineOf a ∷ linesOf cs (a .end)
 
-abbrev outcomeOf : Line → Outcome
+abbrev outcomeOf : SessionLine → Outcome
 outcomeOf l = l .outcome
 
 -- all four running totals at 2^64 - 1
@@ -87,7 +87,7 @@ nearlyWrapped =
 abbrev beforeLast : Sender
 beforeLast = record { seq = 4_294_967_294; remoteAcked = 4_294_967_294; largestAck = 0; inflight = 0; cwnd = 2_800; outgoing = noSlots }
 
-abbrev countOf : Line → ℕ
+abbrev countOf : SessionLine → ℕ
 countOf l = l .count
 
 -- the lengths of the stored packets 0, 1 and 2, 0 where there is none

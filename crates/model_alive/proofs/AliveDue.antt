@@ -110,12 +110,12 @@ fails-why (suc k) m e l = go (get (e .sender .outgoing) m) refl (λ x l f. fails
         before j q a (inr (d, x)) = x
 
 -- the same packets are stored, with the same bytes
-abbrev Same : ℕ → Option Packet → Slots Packet → Type 0
-Same n none s = get s n ≡ none
-Same n (some p) s = (q : Packet) × (get s n ≡ some q) × (q .bytes ≡ p .bytes)
+abbrev SameStored : ℕ → Option Packet → Slots Packet → Type 0
+SameStored n none s = get s n ≡ none
+SameStored n (some p) s = (q : Packet) × (get s n ≡ some q) × (q .bytes ≡ p .bytes)
 
 module _ (n : ℕ) where
-  same-marked : (o : Option Packet) (m : ℕ) (p : Packet) (s : Slots Packet) → length s ≡ ceiling → get s m ≡ some p → Same n o s → Same n o (insert s m (marked lostMarks p))
+  same-marked : (o : Option Packet) (m : ℕ) (p : Packet) (s : Slots Packet) → length s ≡ ceiling → get s m ≡ some p → SameStored n o s → SameStored n o (insert s m (marked lostMarks p))
   same-marked none m p s l z h = insert-none s m n (marked lostMarks p) l h (λ q. no-some h (ap (get s) q ∙ z))
   same-marked (some r) m p s l z (q, e, b) = by (ℕ-discrete n m)
     where
@@ -124,17 +124,17 @@ module _ (n : ℕ) where
           (marked lostMarks p, rw d (insert-same s m (marked lostMarks p) l), ap (λ (x : Packet). x .bytes) (some-inj z (ap (get s) (sym d) ∙ e)) ∙ b)
       by (no d) = (q, insert-other s m n (marked lostMarks p) (λ x. d (one-number s n m q p x e z)) ∙ e, b)
 
-  same-passed : (o : Option Packet) (k m : ℕ) (e : End) → length (e .sender .outgoing) ≡ ceiling → Same n o (e .sender .outgoing)
-      → Same n o ((timeOutLoop k m e) .end .sender .outgoing)
+  same-passed : (o : Option Packet) (k m : ℕ) (e : End) → length (e .sender .outgoing) ≡ ceiling → SameStored n o (e .sender .outgoing)
+      → SameStored n o ((timeOutLoop k m e) .end .sender .outgoing)
   unfolding timeOutLoop timeOutPacket
   same-passed o zero m e l h = h
   same-passed o (suc k) m e l h = go (get (e .sender .outgoing) m) refl (λ x l h. same-passed o k (suc m) x l h)
     where
       Q : Passed → Type 0
-      Q t = Same n o ((cond (t .failed) t (timeOutLoop k (suc m) (t .end))) .end .sender .outgoing)
+      Q t = SameStored n o ((cond (t .failed) t (timeOutLoop k (suc m) (t .end))) .end .sender .outgoing)
 
       go : (b : Option Packet) → get (e .sender .outgoing) m ≡ b
-          → ((x : End) → length (x .sender .outgoing) ≡ ceiling → Same n o (x .sender .outgoing) → Same n o ((timeOutLoop k (suc m) x) .end .sender .outgoing))
+          → ((x : End) → length (x .sender .outgoing) ≡ ceiling → SameStored n o (x .sender .outgoing) → SameStored n o ((timeOutLoop k (suc m) x) .end .sender .outgoing))
           → Q (on b (record { failed = false; end = e }) (λ p. timeOutPacket m p e))
       go none z rec = rec e l h
       go (some p) z rec =

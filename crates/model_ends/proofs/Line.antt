@@ -56,8 +56,8 @@ pub record Pieces (remote seq : ℕ) (pieces : List Bytes) (accepted : Bytes) : 
   pub short : All (λ p. length p ≤ 1_380) pieces
   pub whole : joined pieces ≡ accepted
 
-abbrev pub Stored : (remote remoteAcked : ℕ) → Slots Packet → List Bytes → ℕ → Type 0
-Stored remote remoteAcked outgoing pieces ack =
+abbrev pub StoredPieces : (remote remoteAcked : ℕ) → Slots Packet → List Bytes → ℕ → Type 0
+StoredPieces remote remoteAcked outgoing pieces ack =
     (n : ℕ) (p : Packet) → get outgoing n ≡ some p → (remoteAcked ≤ n) × PieceAt remote pieces ack n (p .bytes)
 
 abbrev pub QueueEntry : ℕ → List Bytes → ℕ → Entry → Type 0
@@ -118,7 +118,7 @@ abbrev pub OneWay : End → History → End → History → Type 0
 OneWay e g f k =
     record {
       pieces : Pieces (e .ids .remote) (e .sender .seq) (g .pieces) (g .accepted);
-      stored : Stored (e .ids .remote) (e .sender .remoteAcked) (e .sender .outgoing) (g .pieces) (e .receiver .ack);
+      stored : StoredPieces (e .ids .remote) (e .sender .remoteAcked) (e .sender .outgoing) (g .pieces) (e .receiver .ack);
       queue : QueueOk (e .ids .remote) (g .pieces) (e .receiver .ack) (e .queue .entries);
       taken : TakenOk (e .ids .remote) (g .pieces) (e .receiver .ack) (g .taken);
       received : ReceivedBy (f .receiver) (g .pieces) (k .reads) (k .brought);

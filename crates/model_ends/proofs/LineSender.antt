@@ -24,7 +24,7 @@ use Rattle.model_ends.specs.TwoEnds.{History}
 use Rattle.model.proofs.Lists.{all-append, all-map, joined-append}
 use Rattle.model.proofs.Slots.{apart, no-some, insert-length, remove-length, insert-same, insert-other, insert-cases, remove-cases, remove-keep}
 use Rattle.model.proofs.Wire.{packet-length}
-use Rattle.model_ends.proofs.Line.{There, Datagram, PieceAt, dataHeader, Stored, QueueEntry, QueueOk, TakenOk, Received, offsetOf, OneWay}
+use Rattle.model_ends.proofs.Line.{There, Datagram, PieceAt, dataHeader, StoredPieces, QueueEntry, QueueOk, TakenOk, Received, offsetOf, OneWay}
 
 -- datagrams: a later ack, more pieces
 
@@ -120,7 +120,7 @@ module _ (remote : ℕ) (pieces more : List Bytes) (ack later : ℕ) (l : ack �
   taken-later : (ds : List Bytes) → TakenOk remote pieces ack ds → TakenOk remote (pieces ++ more) later ds
   taken-later ds s = all-map (datagram-later more later l) ds s
 
-  stored-later : (remoteAcked : ℕ) (outgoing : Slots Packet) → Stored remote remoteAcked outgoing pieces ack → Stored remote remoteAcked outgoing (pieces ++ more) later
+  stored-later : (remoteAcked : ℕ) (outgoing : Slots Packet) → StoredPieces remote remoteAcked outgoing pieces ack → StoredPieces remote remoteAcked outgoing (pieces ++ more) later
   stored-later remoteAcked outgoing s n p e = let (u, v) = s n p e in (u, piece-later more later l v)
 
 -- the same with no more pieces
@@ -131,9 +131,9 @@ module _ (remote : ℕ) (pieces : List Bytes) (ack later : ℕ) (l : ack ≤ lat
   pub taken-acked : (ds : List Bytes) → TakenOk remote pieces ack ds → TakenOk remote pieces later ds
   taken-acked ds s = subst (λ (ps : List Bytes). TakenOk remote ps later ds) (append-nil pieces) (taken-later remote pieces [] ack later l ds s)
 
-  pub stored-acked : (remoteAcked : ℕ) (outgoing : Slots Packet) → Stored remote remoteAcked outgoing pieces ack → Stored remote remoteAcked outgoing pieces later
+  pub stored-acked : (remoteAcked : ℕ) (outgoing : Slots Packet) → StoredPieces remote remoteAcked outgoing pieces ack → StoredPieces remote remoteAcked outgoing pieces later
   stored-acked remoteAcked outgoing s =
-      subst (λ (ps : List Bytes). Stored remote remoteAcked outgoing ps later) (append-nil pieces) (stored-later remote pieces [] ack later l remoteAcked outgoing s)
+      subst (λ (ps : List Bytes). StoredPieces remote remoteAcked outgoing ps later) (append-nil pieces) (stored-later remote pieces [] ack later l remoteAcked outgoing s)
 
 -- lengths
 

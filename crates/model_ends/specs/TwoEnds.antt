@@ -143,8 +143,8 @@ abbrev pub StoredBy : Side → ℕ → Bytes → Type 0
 StoredBy x n piece = (p : Packet) × (get (x .end .sender .outgoing) n ≡ some p) × (drop 20 (p .bytes) ≡ piece)
 
 -- where a packet at or past the receiver's ack still is
-abbrev pub Kept : (sender receiver : Side) → ℕ → Bytes → Type 0
-Kept s r n piece = StoredBy s n piece
+abbrev pub StillStored : (sender receiver : Side) → ℕ → Bytes → Type 0
+StillStored s r n piece = StoredBy s n piece
 
 pub record Carried (s r : Side) : Type 0 where
   -- the bytes read are the first bytes accepted
@@ -157,7 +157,7 @@ pub record Carried (s r : Side) : Type 0 where
   -- "The packets are the pieces that went, numbered from 0 in order over all writes": the next packet's number is how many went
   pub numbered : s .end .sender .seq ≡ length (s .past .pieces)
   -- the sender still stores each of those packets
-  pub kept : (n : ℕ) → r .end .receiver .ack ≤ n → n < length (s .past .pieces) → Kept s r n (getD (s .past .pieces) n [])
+  pub kept : (n : ℕ) → r .end .receiver .ack ≤ n → n < length (s .past .pieces) → StillStored s r n (getD (s .past .pieces) n [])
   -- "a packet stored or held is there under its number, with just that piece's bytes as payload": each one that the sender stores or
   -- the receiver holds, whichever numbers they are
   pub stored : (n : ℕ) (p : Packet) → get (s .end .sender .outgoing) n ≡ some p

@@ -22,7 +22,7 @@ use Rattle.model.specs.Rules.{sum, inflightOf, oneOf, payloadOf, distinct, stat
 use Rattle.model.specs.RulesKept.{Every, EntryKept, RestKept, ToTakeKept, KeepsRules}
 use Rattle.model.proofs.Lists.{All}
 use Rattle.model.proofs.SlotSums.{SlotsOk}
-use Rattle.model_rules.proofs.Ranges.{InWindow, InSegments}
+use Rattle.model_rules.proofs.Ranges.{CwndInRange, InSegments}
 use Rattle.model.proofs.RulesKept.{rules-say, rules-said, distinct-few}
 
 -- how often a number stands in the queue
@@ -76,7 +76,7 @@ pub record ToTake (q : List Entry) : Type 0 where
   pub packets : length (numbers q) ≤ 64
 
 -- the sender's numbers
-pub record Numbers (seq remoteAcked largestAck : ℕ) : Type 0 where
+pub record SenderNumbers (seq remoteAcked largestAck : ℕ) : Type 0 where
   pub acked-seq : remoteAcked ≤ seq
   pub seq-near : seq ≤ remoteAcked + ceiling
   pub largest-seq : largestAck ≤ seq
@@ -95,7 +95,7 @@ pub record Sums (i k b : ℕ) (outgoing : Slots Packet) : Type 0 where
 -- estimate, window and clocks
 pub record InRanges (rtt : Rtt) (cwnd drive last : ℕ) : Type 0 where
   pub estimate : InRange rtt
-  pub window : InWindow cwnd
+  pub window : CwndInRange cwnd
   pub drive-last : drive ≤ last
   pub last-fits : last < 2 ^ 60
 
@@ -124,7 +124,7 @@ ReceiverFacts more r =
 abbrev pub FactsWith : Bool → End → Type 0
 FactsWith more e =
     record {
-      numbers : Numbers (e .sender .seq) (e .sender .remoteAcked) (e .sender .largestAck);
+      numbers : SenderNumbers (e .sender .seq) (e .sender .remoteAcked) (e .sender .largestAck);
       slots : length (e .sender .outgoing) ≡ ceiling;
       stored : SlotsOk (StoredIn e) (e .sender .outgoing);
       spare : more ≡ true → SlotsOk (Spare (e .queue .entries)) (e .sender .outgoing);

@@ -27,7 +27,7 @@ use Rattle.model.proofs.Lists.{by-test}
 use Rattle.model.proofs.Slots.{insert-length}
 use Rattle.model.proofs.SlotSums.{SlotsOk, slots-look, slots-insert}
 use Rattle.model.proofs.Gate.{noTest, by-gate, clear, and-false, clock-fits}
-use Rattle.model_rules.proofs.Ranges.{InWindow, grown-range}
+use Rattle.model_rules.proofs.Ranges.{CwndInRange, grown-range}
 use Rattle.model_rules.proofs.Invariant.{HeldFacts, ReceiverFacts, InvariantWith}
 use Rattle.model_rules.proofs.InvariantSteps.{states-append, facts-clocks, facts-window}
 use Rattle.model_rules.proofs.InvariantMarks.{facts-acked, rest-acked, by-ack}
@@ -124,7 +124,7 @@ resting-ack h e l r =
       facts =
           facts-window e (max (e .sender .largestAck) (h .ack)) (cond (ltb (e .sender .remoteAcked) (h .ack)) (grown (e .sender .cwnd)) (e .sender .cwnd))
           (let u = r .facts .numbers .largest-seq in omega arith)
-          (by-test InWindow (ltb (e .sender .remoteAcked) (h .ack)) (grown (e .sender .cwnd)) (e .sender .cwnd) (λ q. grown-range (e .sender .cwnd) w) (λ q. w)) (r .facts);
+          (by-test CwndInRange (ltb (e .sender .remoteAcked) (h .ack)) (grown (e .sender .cwnd)) (e .sender .cwnd) (λ q. grown-range (e .sender .cwnd) w) (λ q. w)) (r .facts);
       none-left = r .none-left;
       rest = r .rest;
     }

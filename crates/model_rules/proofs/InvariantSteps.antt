@@ -22,7 +22,7 @@ use Rattle.model.proofs.Lists.{All, all-append, all-map, by-test}
 use Rattle.model.proofs.Slots.{apart, no-some, some-inj, insert-length, insert-same, insert-cases}
 use Rattle.model.proofs.SlotSums.{slots-map, slots-insert, sum-new}
 use Rattle.model.proofs.Wire.{packet-length}
-use Rattle.model_rules.proofs.Ranges.{InWindow}
+use Rattle.model_rules.proofs.Ranges.{CwndInRange}
 use Rattle.model.proofs.Gate.{and-left, and-right, and-true}
 use Rattle.model_rules.proofs.Invariant.{count, Spare, QueuedOnce, Between, StoredIn, RestIn, FactsWith}
 
@@ -288,7 +288,7 @@ facts-clocks e c l d y g =
     }
 
 -- another largest ack and window
-pub facts-window : {more : Bool} (e : End) (largestAck cwnd : ℕ) → largestAck ≤ e .sender .seq → InWindow cwnd → FactsWith more e
+pub facts-window : {more : Bool} (e : End) (largestAck cwnd : ℕ) → largestAck ≤ e .sender .seq → CwndInRange cwnd → FactsWith more e
     → FactsWith more
     (withSender
     (record { seq = e .sender .seq; remoteAcked = e .sender .remoteAcked; largestAck = largestAck; inflight = e .sender .inflight; cwnd = cwnd; outgoing = e .sender .outgoing })

@@ -12,7 +12,7 @@ pub fresh-range : InRange estimate.fresh
 fresh-range = record { srtt = omega arith; rttvar = omega arith; least = omega arith; most = omega arith }
 
 -- 01: "the window is 1,400 to 4,294,967,295"
-pub record InWindow (cwnd : ℕ) : Type 0 where
+pub record CwndInRange (cwnd : ℕ) : Type 0 where
   pub least : 1_400 ≤ cwnd
   pub most : cwnd ≤ 4_294_967_295
 
@@ -21,13 +21,13 @@ pub record InSegments (segments : ℕ) : Type 0 where
   pub least : 1 ≤ segments
   pub most : segments ≤ 10
 
-pub grown-range : (cwnd : ℕ) → InWindow cwnd → InWindow (grown cwnd)
+pub grown-range : (cwnd : ℕ) → CwndInRange cwnd → CwndInRange (grown cwnd)
 unfolding grown
 grown-range cwnd k = at (cond (ltb cwnd 65_535) 1_400 (max (1_960_000 / cwnd) 1))
   where
-    at : (more : ℕ) → InWindow (min 4_294_967_295 (cwnd + more))
+    at : (more : ℕ) → CwndInRange (min 4_294_967_295 (cwnd + more))
     at more = let a = k .least in record { least = omega arith; most = omega arith }
 
-pub halved-range : (cwnd : ℕ) → InWindow cwnd → InWindow (halved cwnd)
+pub halved-range : (cwnd : ℕ) → CwndInRange cwnd → CwndInRange (halved cwnd)
 unfolding halved
 halved-range cwnd k = let b = k .most in record { least = omega arith; most = omega arith }

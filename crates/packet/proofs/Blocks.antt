@@ -10,7 +10,7 @@ use borrow.Author.Tests.{lt-ltb, le-ltb, ltb-true, ltb-false}
 use lib.Dec.{ltb}
 use lib.ListN.{length, drop, length-drop}
 use lib.Seq.{drop-drop}
-use Rattle.packet.specs.declared.sack.Block.the-variants.{Range, End}
+use Rattle.packet.specs.declared.sack.Block.the-variants.{Range, NoMore}
 use Rattle.packet.specs.LittleEndian.{word}
 use Rattle.packet.specs.Blocks.{Span, spanOf, blocksIn, blocksFrom, nextBlock, BlockCount}
 
@@ -50,7 +50,7 @@ pub next-range : (payload : List ℕ) (at : ℕ) {start end : ℕ} → at + 8 < 
     → start ≡ word payload at → end ≡ word payload (at + 4) → Range start end ≡ nextBlock (blocksFrom payload at)
 next-range payload at h p q = simp (p, q, blocks-next payload at h, drop-drop 4 at payload)
 
-pub next-end : (payload : List ℕ) (at : ℕ) → length payload ≤ at + 8 → End ≡ nextBlock (blocksFrom payload at)
+pub next-end : (payload : List ℕ) (at : ℕ) → length payload ≤ at + 8 → NoMore ≡ nextBlock (blocksFrom payload at)
 next-end payload at h = simp (blocks-end payload at h)
 
 -- what an answer says of the blocks left: a range is the first of them and stands inside the payload, and at the end there is none
@@ -72,10 +72,10 @@ range-first payload at start end e =
     same : (a b : ℕ) → Range a b ≡ Range start end → _≡_ {A = Span} record { start = a; end = b } record { start = start; end = end }
     same a b g = cc
 
-pub end-none : (payload : List ℕ) (at : ℕ) → nextBlock (blocksFrom payload at) ≡ End → blocksFrom payload at ≡ []
+pub end-none : (payload : List ℕ) (at : ℕ) → nextBlock (blocksFrom payload at) ≡ NoMore → blocksFrom payload at ≡ []
 end-none payload at e = go (blocksFrom payload at) e
   where
-    go : (bs : List Span) → nextBlock bs ≡ End → bs ≡ []
+    go : (bs : List Span) → nextBlock bs ≡ NoMore → bs ≡ []
     go [] f = refl
     go (b ∷ bs) f = absurd (let z : _≡_ {A = ℕ} 0 1 = cc in omega arith)
 

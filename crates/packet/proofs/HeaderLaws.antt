@@ -61,7 +61,7 @@ decoded-packet s long magic version p q r t =
     simp (le-leb 20 (length s) long, eq-eqb (getD s 0 0) 255 magic, eq-eqb (getD s 1 0) 1 version, p, q, r, t)
 
 -- what is known of a list that a decode accepted
-pub record Accepted (s : List ℕ) (h : Header) : Type 0 where
+pub record DecodeAccepted (s : List ℕ) (h : Header) : Type 0 where
   pub long : 20 ≤ length s
   pub magic : getD s 0 0 ≡ 255
   pub version : getD s 1 0 ≡ 1
@@ -75,7 +75,7 @@ accepted : (t : Bool) (f h : Header) → cond t (Packet f) (Refused BadHeader) �
 accepted true f h e = (refl, cc)
 accepted false f h e = absurd (let z : _≡_ {A = ℕ} 0 1 = cc in omega arith)
 
-pub decoded-accepted : (s : List ℕ) (h : Header) → decoded s ≡ Packet h → Accepted s h
+pub decoded-accepted : (s : List ℕ) (h : Header) → decoded s ≡ Packet h → DecodeAccepted s h
 unfolding decoded
 decoded-accepted s h e =
     let a : (hasHeader s ≡ true) × (fields s ≡ h) = accepted (hasHeader s) (fields s) h e in

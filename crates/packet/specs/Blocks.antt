@@ -6,7 +6,7 @@ use mathlib.Core.Bool.{cond}
 use lib.ListN.{length, drop}
 use lib.Dec.{ltb}
 use Rattle.packet.specs.declared.sack.Block.{Block}
-use Rattle.packet.specs.declared.sack.Block.the-variants.{Range, End}
+use Rattle.packet.specs.declared.sack.Block.the-variants.{Range, NoMore}
 use Rattle.packet.specs.LittleEndian.{word}
 
 -- numbers from start to below end
@@ -34,7 +34,7 @@ blocks payload = blocksFrom payload 0
 
 -- the first of some blocks, or the end
 abbrev pub nextBlock : List Span → Block
-nextBlock [] = End
+nextBlock [] = NoMore
 nextBlock (b ∷ bs) = Range (b .start) (b .end)
 
 -- How many there are; proved in proofs/Blocks.antt.

@@ -8,7 +8,7 @@ use Rattle.packet.specs.declared.header.Decoded.the-variants.{Packet}
 use Rattle.packet.specs.Header.{decoded, encodedIn}
 
 -- each field fits the bytes that it has in the header, as every header of the code does
-pub record Within (h : Header) : Type 0 where
+pub record HeaderFits (h : Header) : Type 0 where
   pub typ : h .typ < 256
   pub «data_offset» : h .«data_offset» < 256
   pub «stream_id» : h .«stream_id» < 2 ^ 32
@@ -22,7 +22,7 @@ Bytes s = (i : ℕ) → getD s i 0 < 256
 
 -- Decoding what was encoded gives the header back.
 abbrev pub DecodeEncode : Type 0
-DecodeEncode = (h : Header) (buf : List ℕ) → Within h → 20 ≤ length buf → decoded (encodedIn h buf) ≡ Packet h
+DecodeEncode = (h : Header) (buf : List ℕ) → HeaderFits h → 20 ≤ length buf → decoded (encodedIn h buf) ≡ Packet h
 
 -- Encoding what was decoded gives its first 20 bytes back.
 abbrev pub EncodeDecode : Type 0

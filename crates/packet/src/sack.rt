@@ -7,7 +7,7 @@ pub enum Block {
     // Numbers from start to below end.
     Range { start: u32, end: u32 },
     // No block stands here.
-    End,
+    NoMore,
 }
 
 // The block at a place of a payload; the next one stands 8 bytes on. Tested by a difference, so that no sum can wrap.
@@ -15,10 +15,10 @@ pub fn block_at(payload: &[u8], at: usize) -> Block
     ensures { λ r. ⌜ r ≡ nextBlock (blocksFrom (now (payload .entry)) at) ⌝ }
 {
     if payload.len() <= 8 {
-        return Block::End;
+        return Block::NoMore;
     }
     if payload.len() - 8 <= at {
-        return Block::End;
+        return Block::NoMore;
     }
     Block::Range {
         start: read_u32_le(payload, at),

@@ -4,7 +4,7 @@ use mathlib.Core.Path.{_≡_, sym, ap, _∙_}
 use mathlib.Core.List.{List, [], _∷_}
 use native.Mathlib.Omega.{arith}
 use lib.ListN.{length}
-use Rattle.packet.specs.declared.sack.Block.the-variants.{Range, End}
+use Rattle.packet.specs.declared.sack.Block.the-variants.{Range, NoMore}
 use Rattle.packet.specs.Blocks.{Span, blocksFrom, nextBlock}
 use Rattle.packet.proofs.Blocks.{range-inside, range-first, end-none}
 use Rattle.packet_blocks.specs.declared.Next.{Next}
@@ -16,8 +16,8 @@ pub reads-range : (payload : List ℕ) (at : ℕ) {start end : ℕ} → nextBloc
     → _≡_ {A = Next} record { block = Range start end; at = at + 8 } (readAt payload at)
 reads-range payload at {start} {end} is = simp (range-first payload at start end is)
 
-pub reads-end : (payload : List ℕ) (at : ℕ) → nextBlock (blocksFrom payload at) ≡ End
-    → _≡_ {A = Next} record { block = End; at = at } (readAt payload at)
+pub reads-end : (payload : List ℕ) (at : ℕ) → nextBlock (blocksFrom payload at) ≡ NoMore
+    → _≡_ {A = Next} record { block = NoMore; at = at } (readAt payload at)
 reads-end payload at is = simp (end-none payload at is)
 
 -- and back, as a loop over the blocks needs it
@@ -42,5 +42,5 @@ module _ (payload : List ℕ) (at : ℕ) {n : Next} (read : n ≡ readAt payload
       let h = range-inside payload at start end (stands ∙ is) in
       (omega arith, omega arith)
 
-  pub read-none : n .block ≡ End → blocksFrom payload at ≡ []
+  pub read-none : n .block ≡ NoMore → blocksFrom payload at ≡ []
   read-none is = end-none payload at (stands ∙ is)

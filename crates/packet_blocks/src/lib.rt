@@ -24,8 +24,8 @@ pub fn next_at(payload: &[u8], at: usize) -> Next
             block: Block::Range { start, end },
             at: at + 8,
         },
-        Block::End => Next {
-            block: Block::End,
+        Block::NoMore => Next {
+            block: Block::NoMore,
             at,
         },
     }

@@ -38,7 +38,7 @@ use Rattle.udx_steps.specs.Steps.{refusedStep}
 use Rattle.udx.specs.Agree.{laidOut, onRecords, segmentOf, Agrees, Answers}
 use Rattle.udx.proofs.RefusalLaws.{refused-answers}
 use Rattle.promise.specs.Runs.{Records, seenOf, Request, toWrite, toDeliver, toDrive, toTake, toRead, toClose, Event, left, Did, OpenedBy, handedOut}
-use Rattle.promise.specs.Possible.{Sized, Openable, Makes, EveryRun}
+use Rattle.promise.specs.Possible.{WordLengths, Openable, Makes, EveryRun}
 use Rattle.promise.proofs.LaidOut.{laid, LaidAs, laid-as}
 use Rattle.promise.proofs.Runs.{on-laid, stands-next, open-stands}
 use Rattle.promise.proofs.EveryRead.{ready-acts, give}
@@ -176,9 +176,9 @@ record Answered (x : Records) (call : End → Answer) : Type 0 where
   step : Step
   after : Lent
   answers : Answers call (x .stream) (x .totals) (x .lent) step after
-  sized : Sized after
+  sized : WordLengths after
 
-module _ (x : Records) (out : laidOut (x .stream) (x .lent) ≡ true) (keeps : Invariant (seenOf x)) (sized : Sized (x .lent)) where
+module _ (x : Records) (out : laidOut (x .stream) (x .lent) ≡ true) (keeps : Invariant (seenOf x)) (sized : WordLengths (x .lent)) where
   answer-call : (call : End → Answer) → Quiet (seenOf x) (call (seenOf x)) → Segment (call (seenOf x)) → Invariant ((call (seenOf x)) .end) → Answered x call
   answer-call call quiet segment next = go (refusal-of (a .outcome))
     where
@@ -222,15 +222,15 @@ module _ (x : Records) (out : laidOut (x .stream) (x .lent) ≡ true) (keeps : I
 pub record Stand (x : Records) : Type 0 where
   pub laid : laidOut (x .stream) (x .lent) ≡ true
   pub keeps : Invariant (seenOf x)
-  pub sized : Sized (x .lent)
+  pub sized : WordLengths (x .lent)
 
-pub record Made (x : Records) (q : Request) : Type 0 where
+pub record MadeCall (x : Records) (q : Request) : Type 0 where
   pub event : Event
   pub request : event .request ≡ q
   pub did : Did x event
   pub next : Stand (left event)
 
-stand-next : (x : Records) (v : Event) → Stand x → Did x v → Sized (v .lent) → Stand (left v)
+stand-next : (x : Records) (v : Event) → Stand x → Did x v → WordLengths (v .lent) → Stand (left v)
 stand-next x v h d n =
     let s = stands-next x (seenOf x) v (record { laid = h .laid; end = refl; keeps = h .keeps }) d in
     record { laid = s .laid; keeps = subst Invariant (sym (s .end)) (s .keeps); sized = n }
@@ -242,7 +242,7 @@ module _ (x : Records) (h : Stand x) where
   by-answer : (call : End → Answer) → Quiet e (call e) → Segment (call e) → Invariant ((call e) .end) → Answered x call
   by-answer call quiet segment next = answer-call x (h .laid) (h .keeps) (h .sized) call quiet segment next
 
-  pub make : (q : Request) → Made x q
+  pub make : (q : Request) → MadeCall x q
   make (toWrite bytes) =
       let a = by-answer (model.write bytes) (write-quiet bytes e) (write-segment bytes e) (call-keeps (writeCall bytes) e (h .keeps)) in
       let v : Event = record { request = toWrite bytes; step = a .step; lent = a .after; buf = [] } in

@@ -41,7 +41,7 @@ use Rattle.udx_steps.specs.declared.step.Step.{Step}
 use Rattle.udx.specs.Agree.{laidOut, onRecords, Agrees}
 use Rattle.udx.specs.Read.{readLent, Gives}
 use Rattle.promise.specs.Runs.{Records, seenOf}
-use Rattle.promise.specs.Possible.{Sized}
+use Rattle.promise.specs.Possible.{WordLengths}
 use Rattle.promise.proofs.LaidOut.{laid, LaidAs, laid-as}
 use Rattle.promise.proofs.Runs.{on-laid}
 
@@ -82,7 +82,7 @@ pub record Given (x : Records) (buf : Bytes) : Type 0 where
   pub after : Lent
   pub buf′ : Bytes
   pub gives : Gives (x .stream) (x .totals) (x .lent) buf step after buf′
-  pub sized : Sized (x .lent) → Sized after
+  pub sized : WordLengths (x .lent) → WordLengths after
 
 module _ (x : Records) (out : laidOut (x .stream) (x .lent) ≡ true) (stores : storesTest (x .lent .outgoing) (x .lent .incoming) (x .lent .headers) ≡ false)
     (keeps : Invariant (seenOf x)) (buf : Bytes) where
@@ -146,7 +146,7 @@ module _ (x : Records) (out : laidOut (x .stream) (x .lent) ≡ true) (stores : 
       }
 
   -- the front of a packet
-  module _ (lengths : Sized (x .lent)) (h : model.Held) (there : get (seenOf x .receiver .incoming) (seenOf x .receiver .readCursor) ≡ some h)
+  module _ (lengths : WordLengths (x .lent)) (h : model.Held) (there : get (seenOf x .receiver .incoming) (seenOf x .receiver .readCursor) ≡ some h)
       (l : ltb (length buf) (length (rest h)) ≡ true) where
     abbrev cursor : ℕ
     cursor = x .stream .receiver .«read_cursor»
@@ -236,7 +236,7 @@ module _ (x : Records) (out : laidOut (x .stream) (x .lent) ≡ true) (stores : 
           sized = λ z. record { sent = z .sent; held = held-sized; queue = z .queue };
         }
 
-  pub give : Sized (x .lent) → Given x buf
+  pub give : WordLengths (x .lent) → Given x buf
   unfolding readNext
   give lengths = go (get (seenOf x .receiver .incoming) (seenOf x .receiver .readCursor)) refl
     where

@@ -26,9 +26,9 @@ use Rattle.records.specs.Open.{storesTest}
 use Rattle.records.proofs.FormedQueue.{queue-said}
 use Rattle.udx.specs.Agree.{laidOut}
 use Rattle.promise.specs.Runs.{Records, seenOf}
-use Rattle.promise.specs.Possible.{Sized}
-use Rattle.promise.proofs.LaidPackets.{Stored, laidSent, laidOutgoing, sent-length, outgoing-length, outgoing-stays, outgoing-seen, Kept, laidHeld, laidIncoming, held-length, incoming-length, incoming-stays, incoming-seen}
-use Rattle.promise.proofs.LaidQueue.{Fits, laidQueue, laidEntries, laidHeaders, entries-length, laid-headers-length, queue-seen, queue-formed}
+use Rattle.promise.specs.Possible.{WordLengths}
+use Rattle.promise.proofs.LaidPackets.{StoredFits, laidSent, laidOutgoing, sent-length, outgoing-length, outgoing-stays, outgoing-seen, HeldFits, laidHeld, laidIncoming, held-length, incoming-length, incoming-stays, incoming-seen}
+use Rattle.promise.proofs.LaidQueue.{EntryFits, laidQueue, laidEntries, laidHeaders, entries-length, laid-headers-length, queue-seen, queue-formed}
 
 abbrev stateFor : model.CloseState → StreamState
 stateFor model.bothOpen = state.Open
@@ -89,7 +89,7 @@ pub record LaidAs (e : model.End) (l : Lent) (x : Records) : Type 0 where
   pub seen : seenOf x ≡ e
   pub out : laidOut (x .stream) (x .lent) ≡ true
   pub beside : Beside l (x .lent)
-  pub sized : Sized (x .lent)
+  pub sized : WordLengths (x .lent)
 
 -- the stores have 01's lengths
 lengths : (a b c : Bool) → (not a || (not b || not c)) ≡ false → (a ≡ true) × (b ≡ true) × (c ≡ true)
@@ -112,7 +112,7 @@ module _ (e : model.End) (g : Invariant e) (l : Lent) (stores : storesTest (l .o
       let (a, b, c) = lengths (eqb (length (l .outgoing)) 44_800) (eqb (length (l .incoming)) 44_160) (eqb (length (l .headers)) 1_280) stores in
       (eqb-true _ _ a, eqb-true _ _ b, eqb-true _ _ c)
 
-  stored : (i : ℕ) (x : Numbered model.Packet) → getD (e .sender .outgoing) i none ≡ some x → Stored (e .sender .remoteAcked) (e .sender .seq) i x
+  stored : (i : ℕ) (x : Numbered model.Packet) → getD (e .sender .outgoing) i none ≡ some x → StoredFits (e .sender .remoteAcked) (e .sender .seq) i x
   stored i x z =
       let (a, f) = g .facts .stored i x z in
       let t = f .transmits in
@@ -128,7 +128,7 @@ module _ (e : model.End) (g : Invariant e) (l : Lent) (stores : storesTest (l .o
         time = λ t u. let before = f .sent t u in omega arith;
       }
 
-  held : (i : ℕ) (x : Numbered model.Held) → getD (e .receiver .incoming) i none ≡ some x → Kept (e .receiver .readCursor) (e .receiver .readCursor + ceiling) i x
+  held : (i : ℕ) (x : Numbered model.Held) → getD (e .receiver .incoming) i none ≡ some x → HeldFits (e .receiver .readCursor) (e .receiver .readCursor + ceiling) i x
   held i x z =
       let (a, f) = g .facts .receiver .held i x z in
       let m = f .most in
@@ -138,10 +138,10 @@ module _ (e : model.End) (g : Invariant e) (l : Lent) (stores : storesTest (l .o
   numbers-fit : FitIn e
   numbers-fit = g .facts .fits refl
 
-  fit : All Fits (e .queue .entries)
+  fit : All EntryFits (e .queue .entries)
   fit = go (e .queue .entries) (g .facts .entries) (numbers-fit .below)
     where
-      go : (q : List model.Entry) → All (EntryKept (e .sender .outgoing)) q → All (λ n. n < e .sender .seq) (numbers q) → All Fits q
+      go : (q : List model.Entry) → All (EntryKept (e .sender .outgoing)) q → All (λ n. n < e .sender .seq) (numbers q) → All EntryFits q
       go [] h b = tt
       go (model.state x ∷ q) h b = (h .0, go q (h .1) b)
       go (model.packet n k ∷ q) h b =

@@ -61,7 +61,7 @@ abbrev bytesFor : Option (Numbered model.Packet) → Bytes
 bytesFor o = on o [] (λ x. x .value .bytes)
 
 -- what a packet in slot i needs for its word
-pub record Stored (remoteAcked seq i : ℕ) (x : Numbered model.Packet) : Type 0 where
+pub record StoredFits (remoteAcked seq i : ℕ) (x : Numbered model.Packet) : Type 0 where
   pub in-slot : x .number % ceiling ≡ i
   pub from : remoteAcked ≤ x .number
   pub below : x .number < seq
@@ -88,24 +88,24 @@ module _ (remoteAcked seq i : ℕ) where
   sent-again none = refl
   sent-again (some t) = refl
 
-  short-of : (o : Option (Numbered model.Packet)) → ((x : Numbered model.Packet) → o ≡ some x → Stored remoteAcked seq i x) → length (bytesFor o) ≤ 1_400
+  short-of : (o : Option (Numbered model.Packet)) → ((x : Numbered model.Packet) → o ≡ some x → StoredFits remoteAcked seq i x) → length (bytesFor o) ≤ 1_400
   short-of none h = omega arith
   short-of (some x) h = h x refl .short
 
   module _ (fits : seq ≤ 4_294_967_295) where
-    word-back : (x : Numbered model.Packet) → Stored remoteAcked seq i x → sentOf (sentWord (sentFor x)) (sentTime (sentFor x)) ≡ sentFor x
+    word-back : (x : Numbered model.Packet) → StoredFits remoteAcked seq i x → sentOf (sentWord (sentFor x)) (sentTime (sentFor x)) ≡ sentFor x
     word-back x h =
         let a = h .short in
         let b = h .below in
         sent-back (sentFor x) (omega arith) (h .transmits) (omega arith) (time-fits (x .value .marks .sent) (h .time)) (no-time (x .value .marks .sent))
 
-    size-of : (o : Option (Numbered model.Packet)) → ((x : Numbered model.Packet) → o ≡ some x → Stored remoteAcked seq i x)
+    size-of : (o : Option (Numbered model.Packet)) → ((x : Numbered model.Packet) → o ≡ some x → StoredFits remoteAcked seq i x)
         → sentOf (sentWordFor o) (sentTimeFor o) .length ≡ length (bytesFor o)
     unfolding sentOf
     size-of none h = refl
     size-of (some x) h = ap (λ (p : Sent). p .length) (word-back x (h x refl))
 
-    slot-of : (store : Bytes) (o : Option (Numbered model.Packet)) → ((x : Numbered model.Packet) → o ≡ some x → Stored remoteAcked seq i x)
+    slot-of : (store : Bytes) (o : Option (Numbered model.Packet)) → ((x : Numbered model.Packet) → o ≡ some x → StoredFits remoteAcked seq i x)
         → cut outgoingSlot store i (length (bytesFor o)) ≡ bytesFor o → storedIn remoteAcked seq store i (sentOf (sentWordFor o) (sentTimeFor o)) ≡ o
     slot-of store none h c =
         let p = sentOf 0 0 in
@@ -143,7 +143,7 @@ module _ (s : Slots model.Packet) where
       let (a, b) = two-tables ceiling (λ i. sentWordFor (getD s i none)) (λ i. sentTimeFor (getD s i none)) i l in
       ap₂ sentOf a b
 
-  module _ (remoteAcked seq : ℕ) (fits : seq ≤ 4_294_967_295) (ok : (i : ℕ) (x : Numbered model.Packet) → getD s i none ≡ some x → Stored remoteAcked seq i x) where
+  module _ (remoteAcked seq : ℕ) (fits : seq ≤ 4_294_967_295) (ok : (i : ℕ) (x : Numbered model.Packet) → getD s i none ≡ some x → StoredFits remoteAcked seq i x) where
     sent-size : (i : ℕ) → i < ceiling → sentSize laidSent i ≡ length (bytesFor (getD s i none))
     sent-size i l = ap (λ (p : Sent). p .length) (sent-word i l) ∙ size-of remoteAcked seq i fits (getD s i none) (ok i)
 
@@ -184,7 +184,7 @@ abbrev payloadFor : Option (Numbered model.Held) → Bytes
 payloadFor o = on o [] (λ x. x .value .payload)
 
 -- what a packet in slot i needs for its word
-pub record Kept (readCursor top i : ℕ) (x : Numbered model.Held) : Type 0 where
+pub record HeldFits (readCursor top i : ℕ) (x : Numbered model.Held) : Type 0 where
   pub in-slot : x .number % ceiling ≡ i
   pub from : readCursor ≤ x .number
   pub below : x .number < top
@@ -198,24 +198,24 @@ heldIn readCursor top store i p =
     numbered (leb readCursor (p .number) && (ltb (p .number) top && (inSlot i (p .number) && isHeld p (p .number)))) (p .number) (heldPayload store i p)
 
 module _ (readCursor top i : ℕ) where
-  held-word-back : (x : Numbered model.Held) → Kept readCursor top i x → heldOf (heldWord (heldFor x)) ≡ heldFor x
+  held-word-back : (x : Numbered model.Held) → HeldFits readCursor top i x → heldOf (heldWord (heldFor x)) ≡ heldFor x
   held-word-back x h =
       let a = h .short in
       let b = h .offset in
       let c = h .fits in
       held-back (heldFor x) (omega arith) (omega arith) (omega arith)
 
-  held-short : (o : Option (Numbered model.Held)) → ((x : Numbered model.Held) → o ≡ some x → Kept readCursor top i x) → length (payloadFor o) ≤ 1_380
+  held-short : (o : Option (Numbered model.Held)) → ((x : Numbered model.Held) → o ≡ some x → HeldFits readCursor top i x) → length (payloadFor o) ≤ 1_380
   held-short none h = omega arith
   held-short (some x) h = h x refl .short
 
-  held-size-of : (o : Option (Numbered model.Held)) → ((x : Numbered model.Held) → o ≡ some x → Kept readCursor top i x)
+  held-size-of : (o : Option (Numbered model.Held)) → ((x : Numbered model.Held) → o ≡ some x → HeldFits readCursor top i x)
       → heldOf (heldWordFor o) .past - 1 ≡ length (payloadFor o)
   unfolding heldOf
   held-size-of none h = refl
   held-size-of (some x) h = ap (λ (p : Held). p .past - 1) (held-word-back x (h x refl)) ∙ (let e : suc (length (x .value .payload)) - 1 ≡ length (x .value .payload) = omega arith in e)
 
-  held-slot-of : (store : Bytes) (o : Option (Numbered model.Held)) → ((x : Numbered model.Held) → o ≡ some x → Kept readCursor top i x)
+  held-slot-of : (store : Bytes) (o : Option (Numbered model.Held)) → ((x : Numbered model.Held) → o ≡ some x → HeldFits readCursor top i x)
       → cut incomingSlot store i (length (payloadFor o)) ≡ payloadFor o → heldIn readCursor top store i (heldOf (heldWordFor o)) ≡ o
   held-slot-of store none h c =
       let p = heldOf 0 in
@@ -244,7 +244,7 @@ module _ (s : Slots model.Held) where
   unfolding laidHeld
   held-word-at i l = table-get ceiling (λ i. heldWordFor (getD s i none)) i 0 l
 
-  module _ (readCursor top : ℕ) (ok : (i : ℕ) (x : Numbered model.Held) → getD s i none ≡ some x → Kept readCursor top i x) (store : Bytes) (size : length store ≡ 44_160) where
+  module _ (readCursor top : ℕ) (ok : (i : ℕ) (x : Numbered model.Held) → getD s i none ≡ some x → HeldFits readCursor top i x) (store : Bytes) (size : length store ≡ 44_160) where
     payload-short : (i : ℕ) → i < ceiling → length (payloadFor (getD s i none)) ≤ incomingSlot
     payload-short i l = rw in-is (held-short readCursor top i (getD s i none) (ok i))
 

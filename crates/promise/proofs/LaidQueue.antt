@@ -40,15 +40,15 @@ headersFor (model.state b ∷ q) = b ++ headersFor q
 headersFor (model.packet n l ∷ q) = headersFor q
 
 -- what an entry needs for its word
-abbrev pub Fits : model.Entry → Type 0
-Fits (model.state b) = length b ≡ 20
-Fits (model.packet n l) = (n < 2 ^ 32) × (l < 65_536)
+abbrev pub EntryFits : model.Entry → Type 0
+EntryFits (model.state b) = length b ≡ 20
+EntryFits (model.packet n l) = (n < 2 ^ 32) × (l < 65_536)
 
 words-length : (q : List model.Entry) → length (wordsFor q) ≡ length q
 words-length [] = refl
 words-length (x ∷ q) = ap suc (words-length q)
 
-headers-length : (q : List model.Entry) → All Fits q → length (headersFor q) ≡ states q * 20
+headers-length : (q : List model.Entry) → All EntryFits q → length (headersFor q) ≡ states q * 20
 headers-length [] h = refl
 headers-length (model.state b ∷ q) h = length-append b (headersFor q) ∙ rw (h .0, headers-length q (h .1)) (omega arith)
 headers-length (model.packet n l ∷ q) h = headers-length q (h .1)
@@ -60,7 +60,7 @@ cut-at pre b rest place e l =
     let z : length b ≡ headerSlot = l ∙ sym head-is in
     rw (drop-at pre (b ++ rest) (place * headerSlot) e, take-at b rest headerSlot z) (take-at b (replicate 20 0) 20 l)
 
-entries-back : (q : List model.Entry) (pre rest : Bytes) (place : ℕ) → All Fits q → length pre ≡ place * headerSlot
+entries-back : (q : List model.Entry) (pre rest : Bytes) (place : ℕ) → All EntryFits q → length pre ≡ place * headerSlot
     → seenEntries (pre ++ (headersFor q ++ rest)) place (wordsFor q) ≡ q
 entries-back [] pre rest place h e = refl
 entries-back (model.state b ∷ q) pre rest place h e =
@@ -88,7 +88,7 @@ module _ (q : model.Queue) where
   unfoldable pub laidHeaders : Bytes → Bytes
   laidHeaders headers = put headers 0 (headersFor (q .entries))
 
-  module _ (fits : All Fits (q .entries)) (few : length (q .entries) ≤ 128) (places : states (q .entries) ≤ 64)
+  module _ (fits : All EntryFits (q .entries)) (few : length (q .entries) ≤ 128) (places : states (q .entries) ≤ 64)
       (left : (q .left ≡ 0) ⊎ (q .left ≡ length (q .entries))) where
     pub entries-length : length laidEntries ≡ 128
     unfolding laidEntries

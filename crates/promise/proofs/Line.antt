@@ -32,8 +32,8 @@ commandsOf [] = []
 commandsOf (c ∷ cs) = commandOf c ∷ commandsOf cs
 
 -- an end whose records are laid out and keep the model's invariant
-abbrev pub Laid : Side → Type 0
-Laid x = Stands (x .records) (seenOf (x .records))
+abbrev pub LaidSide : Side → Type 0
+LaidSide x = Stands (x .records) (seenOf (x .records))
 
 -- one call
 
@@ -48,19 +48,19 @@ noted-same v h = go (v .request)
     go (toRead buf) = refl
     go toClose = refl
 
-pub call-same : (v : Event) (x : Side) → Laid x → Did (x .records) v → seenSide (happened v x) ≡ model.called (callOf (v .request)) (seenSide x)
+pub call-same : (v : Event) (x : Side) → LaidSide x → Did (x .records) v → seenSide (happened v x) ≡ model.called (callOf (v .request)) (seenSide x)
 call-same v x laid d =
     let e = stands-answer (x .records) (seenOf (x .records)) v laid d in
     ap (λ (h : History). record { end = seenOf (left v); past = h }) (noted-same v (x .past))
     ∙ ap (λ (a : Answer). record { end = a .end; past = model.noted (callOf (v .request)) a (x .past) }) e
 
-pub call-laid : (v : Event) (x : Side) → Laid x → Did (x .records) v → Laid (happened v x)
+pub call-laid : (v : Event) (x : Side) → LaidSide x → Did (x .records) v → LaidSide (happened v x)
 call-laid v x laid d =
     let h = stands-next (x .records) (seenOf (x .records)) v laid d in
     record { laid = h .laid; end = refl; keeps = subst Invariant (sym (h .end)) (h .keeps) }
 
 -- a delivery that is refused on the records is refused by the model
-brings-same : (v : Event) (x y : Side) → Laid x → Fits v x y → model.Brings (callOf (v .request)) (seenSide x) (seenSide y)
+brings-same : (v : Event) (x y : Side) → LaidSide x → Fits v x y → model.Brings (callOf (v .request)) (seenSide x) (seenSide y)
 brings-same v x y laid f = go (v .request) (f .1) (ap (λ (a : Answer). a .outcome) (stands-answer (x .records) (seenOf (x .records)) v laid (f .0)))
   where
     go : (q : Request) → Brings q (v .step .outcome) y → v .step .outcome ≡ (answer (callOf q) (seenOf (x .records))) .outcome → model.Brings (callOf q) (seenSide x) (seenSide y)
@@ -75,7 +75,7 @@ brings-same v x y laid f = go (v .request) (f .1) (ap (λ (a : Answer). a .outco
 -- both ends
 
 abbrev pub BothLaid : Ends → Type 0
-BothLaid w = Laid (w .a) × Laid (w .b)
+BothLaid w = LaidSide (w .a) × LaidSide (w .b)
 
 turn-same : (c : Turn) (w : Ends) → BothLaid w → FitsEnds c w → seenEnds (turned c w) ≡ model.step (commandOf c) (seenEnds w)
 turn-same (onA v) w laid f = ap (λ (x : model.Side). record { a = x; b = seenSide (w .b) }) (call-same v (w .a) (laid .0) (f .0))

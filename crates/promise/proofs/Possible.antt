@@ -28,13 +28,13 @@ use Rattle.promise.specs.Runs.{seenOf, Request, toWrite, toDeliver, toDr
 use Rattle.promise.specs.TwoEndsOnRecords.{Side, Ends, Turn, onA, onB, turned, lastOf, Brings, OverALine, bothOpened}
 use Rattle.promise.specs.Possible.{Openable, Asked, ofA, ofB, askedBy, commandsFor, EveryLine, Traffic, Possible}
 use Rattle.promise.proofs.Runs.{stands-answer, open-stands}
-use Rattle.promise.proofs.Line.{seenSide, seenEnds, commandsOf, Laid, call-same, run-same}
+use Rattle.promise.proofs.Line.{seenSide, seenEnds, commandsOf, LaidSide, call-same, run-same}
 use Rattle.promise.proofs.EveryCall.{Stand, make, freshOpened, can-open, open-stand}
 
 -- one call
 
 -- what stands is laid out as what is seen of it
-as-laid : (x : Side) → Stand (x .records) → Laid x
+as-laid : (x : Side) → Stand (x .records) → LaidSide x
 as-laid x h = record { laid = h .laid; end = refl; keeps = h .keeps }
 
 -- a delivery brings what the model's brings

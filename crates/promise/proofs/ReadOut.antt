@@ -26,7 +26,7 @@ use Rattle.promise.specs.TwoEndsOnRecords.{Side, happened, Ends, Turn, t
 use Rattle.promise.specs.Possible.{ReadOut, EveryReadOut}
 use Rattle.promise.proofs.EveryCall.{stores}
 use Rattle.promise.proofs.EveryRead.{loop-whole, Given, acts, finds-none, finishes}
-use Rattle.promise.proofs.Line.{Laid, BothLaid, call-laid, turn-laid}
+use Rattle.promise.proofs.Line.{LaidSide, BothLaid, call-laid, turn-laid}
 use Rattle.promise.proofs.Runs.{Stands, stands-answer, open-stands}
 use Rattle.promise.proofs.TwoEndsOnRecords.{two-ends-on-records}
 
@@ -67,10 +67,10 @@ module _ (room : Bytes) (size : length room ≡ 1_380) where
   abbrev eventOf : {x : Records} → Given x room → Event
   eventOf g = record { request = toRead room; step = g .step; lent = g .after; buf = g .buf′ }
 
-  same-read : (x : Side) → Laid x → (v : Event) → v .request ≡ toRead room → Did (x .records) v → answerOf v ≡ read (length room) (seenOf (x .records))
+  same-read : (x : Side) → LaidSide x → (v : Event) → v .request ≡ toRead room → Did (x .records) v → answerOf v ≡ read (length room) (seenOf (x .records))
   same-read x laid v q d = stands-answer (x .records) (seenOf (x .records)) v laid d ∙ ap (λ (q : Request). answer (callOf q) (seenOf (x .records))) q
 
-  last-read : (x : Side) → Laid x → get (seenOf (x .records) .receiver .incoming) (seenOf (x .records) .receiver .readCursor) ≡ none → Reads x
+  last-read : (x : Side) → LaidSide x → get (seenOf (x .records) .receiver .incoming) (seenOf (x .records) .receiver .readCursor) ≡ none → Reads x
   last-read x laid e =
       let g = finds-none (x .records) (laid .laid) (stores (x .records) (laid .laid)) (laid .keeps) room e in
       let v = eventOf g in
@@ -91,7 +91,7 @@ module _ (room : Bytes) (size : length room ≡ 1_380) where
     below : seenOf (x .records) .receiver .readCursor < 4_294_967_295
     rises : seenOf (x .records) .receiver .readCursor < seenOf (left event) .receiver .readCursor
 
-  next-read : (x : Side) → Laid x → (h : Held) → get (seenOf (x .records) .receiver .incoming) (seenOf (x .records) .receiver .readCursor) ≡ some h → Next x
+  next-read : (x : Side) → LaidSide x → (h : Held) → get (seenOf (x .records) .receiver .incoming) (seenOf (x .records) .receiver .readCursor) ≡ some h → Next x
   unfolding readNext
   next-read x laid h e =
       let o = seenOf (x .records) in
@@ -112,7 +112,7 @@ module _ (room : Bytes) (size : length room ≡ 1_380) where
       }
 
   -- k is at least how many numbers are left that a held packet can have
-  reads-of : (k : ℕ) (x : Side) → Laid x → 4_294_967_295 ≤ k + seenOf (x .records) .receiver .readCursor → Reads x
+  reads-of : (k : ℕ) (x : Side) → LaidSide x → 4_294_967_295 ≤ k + seenOf (x .records) .receiver .readCursor → Reads x
   reads-of zero x laid enough = go (get (seenOf (x .records) .receiver .incoming) (seenOf (x .records) .receiver .readCursor)) refl
     where
       go : (o : Option Held) → get (seenOf (x .records) .receiver .incoming) (seenOf (x .records) .receiver .readCursor) ≡ o → Reads x
@@ -130,12 +130,12 @@ module _ (room : Bytes) (size : length room ≡ 1_380) where
           let r = rec n in
           record { reads = n .event ∷ r .reads; last = r .last; alone = ((room, n .request, size), n .did, r .alone) }
 
-pub reads-at : (x : Side) → Laid x → Reads x
+pub reads-at : (x : Side) → LaidSide x → Reads x
 reads-at x laid = reads-of (replicate 1_380 0) (length-replicate {A = ℕ} 1_380 0) (4_294_967_295 - seenOf (x .records) .receiver .readCursor) x laid (omega arith)
 
 -- two ends
 
-pub stands-laid : (x : Side) (e : End) → Stands (x .records) e → Laid x
+pub stands-laid : (x : Side) (e : End) → Stands (x .records) e → LaidSide x
 stands-laid x e s = record { laid = s .laid; end = refl; keeps = subst Invariant (sym (s .end)) (s .keeps) }
 
 abbrev BothReads : Ends → Type 0

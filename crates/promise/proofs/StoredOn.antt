@@ -27,7 +27,7 @@ use Rattle.records.proofs.SeenIncoming.{heldIn, heldAt, get-incoming, get-past}
 use Rattle.udx.specs.Agree.{laidOut}
 use Rattle.promise.specs.Runs.{Records, seenOf}
 use Rattle.promise.specs.TwoEndsOnRecords.{Side, StoredBy, HeldBy}
-use Rattle.promise.proofs.Line.{seenSide, Laid}
+use Rattle.promise.proofs.Line.{seenSide, LaidSide}
 
 first-fits : (a b : Bool) → not (not a || b) ≡ true → a ≡ true
 first-fits true b h = refl
@@ -58,7 +58,7 @@ cut-lies store i k a b c =
     sym (cut-drop outgoingSlot store i k 20 (rw out-is (in-store i k (length store) a b c)) (rw out-is b)
     ∙ ap (λ (z : ℕ). take (k - 20) (drop (i * z + 20) store)) out-is)
 
-pub stored-on : (x : Side) → Laid x → (n : ℕ) (piece : Bytes) → model.StoredBy (seenSide x) n piece → StoredBy x n piece
+pub stored-on : (x : Side) → LaidSide x → (n : ℕ) (piece : Bytes) → model.StoredBy (seenSide x) n piece → StoredBy x n piece
 unfolding seen
 stored-on x laid n piece (p, e, q) =
     let s = x .records .stream .sender in
@@ -115,7 +115,7 @@ held-lies store i k a b c =
     let room : i * 1_380 + k ≤ length store = omega arith in
     sym (cut-whole incomingSlot store i k (rw in-is room) (rw in-is b) ∙ ap (λ (z : ℕ). take k (drop (i * z) store)) in-is)
 
-pub held-on : (x : Side) → Laid x → (n : ℕ) (piece : Bytes) (h : Held) → get (seenOf (x .records) .receiver .incoming) n ≡ some h → h .payload ≡ piece → HeldBy x n piece
+pub held-on : (x : Side) → LaidSide x → (n : ℕ) (piece : Bytes) (h : Held) → get (seenOf (x .records) .receiver .incoming) n ≡ some h → h .payload ≡ piece → HeldBy x n piece
 unfolding seen
 held-on x laid n piece h e q =
     let r = x .records .stream .receiver in

@@ -14,7 +14,7 @@ use Rattle.records.specs.Seen.{Lent, seen}
 use Rattle.promise.specs.Runs.{OpenedBy}
 use Rattle.promise.specs.TwoEndsOnRecords.{Ends, Turn, onA, onB, turned, lastOf, OverALine, Carried, opened, bothOpened, TwoEndsOnRecords}
 use Rattle.promise.proofs.Runs.{open-clear, open-stands}
-use Rattle.promise.proofs.Line.{seenSide, seenEnds, commandsOf, Laid, BothLaid, turn-laid, run-same, line-same}
+use Rattle.promise.proofs.Line.{seenSide, seenEnds, commandsOf, LaidSide, BothLaid, turn-laid, run-same, line-same}
 use Rattle.promise.proofs.Unread.{readTurns, reads-line, reads-last, unread-is}
 use Rattle.promise.proofs.StoredOn.{stored-on, held-on}
 
@@ -34,7 +34,7 @@ last-laid (c ∷ cs) w laid f = last-laid cs (turned c w) (turn-laid c w laid (f
 
 -- one direction
 
-open-laid : (local remote segments clock : ℕ) (l : Lent) (o : Opened) → OpenedBy local remote segments clock l o → Laid (opened o l)
+open-laid : (local remote segments clock : ℕ) (l : Lent) (o : Opened) → OpenedBy local remote segments clock l o → LaidSide (opened o l)
 open-laid local remote segments clock l o h =
     let s = open-stands local remote segments clock l o h in
     record { laid = s .laid; end = refl; keeps = subst Invariant (sym (s .end)) (s .keeps) }

@@ -25,7 +25,7 @@ use Rattle.records.specs.Seen.{seen}
 use Rattle.promise.specs.Runs.{seenOf, Request, callOf, Event, Did, putBy, answerOf}
 use Rattle.promise.specs.TwoEndsOnRecords.{noted, Side, happened, Ends, Turn, onB, turned, lastOf, Brings, OverALine, ackOf, IsRead, ReadsAlone, putByReads}
 use Rattle.promise.proofs.Runs.{stands-answer}
-use Rattle.promise.proofs.Line.{seenSide, Laid, call-laid}
+use Rattle.promise.proofs.Line.{seenSide, LaidSide, call-laid}
 
 -- a read of the model leaves ack
 
@@ -55,7 +55,7 @@ module _ (v : Event) (x : Side) (is : IsRead v) where
   read-noted : (happened v x) .past .reads ≡ x .past .reads ++ take (v .step .count) (v .buf)
   read-noted = ap (λ (q : Request). (noted q (v .step) (v .buf) (x .past)) .reads) (is .1)
 
-  module _ (laid : Laid x) (d : Did (x .records) v) where
+  module _ (laid : LaidSide x) (d : Did (x .records) v) where
     read-answers : answer (callOf (v .request)) (seenOf (x .records)) ≡ read 1_380 (seenOf (x .records))
     read-answers = ap (λ (q : Request). answer (callOf q) (seenOf (x .records))) (is .1) ∙ ap (λ (n : ℕ). read n (seenOf (x .records))) (is .2)
 
@@ -94,7 +94,7 @@ reads-noted (v ∷ vs) last x h =
     ∙ ap (λ (z : Bytes). z ++ putByReads vs) (read-noted v x (h .0))
     ∙ append-assoc (x .past .reads) (take (v .step .count) (v .buf)) (putByReads vs)
 
-reads-ack : (vs : List Event) (last : Event) (x : Side) → Laid x → ReadsAlone vs last (x .records) → ackOf (readSide vs x) ≡ ackOf x
+reads-ack : (vs : List Event) (last : Event) (x : Side) → LaidSide x → ReadsAlone vs last (x .records) → ackOf (readSide vs x) ≡ ackOf x
 reads-ack [] last x laid h = refl
 reads-ack (v ∷ vs) last x laid h = reads-ack vs last (happened v x) (call-laid v x laid (h .1)) (h .2) ∙ read-keeps v x (h .0) laid (h .1)
 
@@ -103,7 +103,7 @@ none-unread : (e : End) → (read 1_380 e) .bytes ≡ [] → unreadInOrder e ≡
 none-unread e z =
     ap (λ (b : Bytes). cond (isEmpty b) [] ((read 1_380 e) .bytes ++ unreadLoop (e .receiver .ack - e .receiver .readCursor) ((read 1_380 e) .end))) z
 
-reads-none : (vs : List Event) (last : Event) (x : Side) → Laid x → ReadsAlone vs last (x .records) → unreadInOrder (seenOf ((readSide vs x) .records)) ≡ []
+reads-none : (vs : List Event) (last : Event) (x : Side) → LaidSide x → ReadsAlone vs last (x .records) → unreadInOrder (seenOf ((readSide vs x) .records)) ≡ []
 reads-none [] last x laid h =
     none-unread (seenOf (x .records)) (sym (read-puts last x (h .0) laid (h .1)) ∙ ap (λ (n : ℕ). take n (last .buf)) (h .2))
 reads-none (v ∷ vs) last x laid h = reads-none vs last (happened v x) (call-laid v x laid (h .1)) (h .2)
@@ -124,7 +124,7 @@ same-back x y d e =
 between : (r x y d : Bytes) → r ++ (x ++ d) ≡ (r ++ y) ++ d → x ≡ y
 between r x y d e = same-back x y d (same-front r (x ++ d) (y ++ d) (e ∙ append-assoc r y d))
 
-pub unread-is : (s x : Side) (vs : List Event) (last : Event) → Laid x → ReadsAlone vs last (x .records) → model.Carried (seenSide s) (seenSide x)
+pub unread-is : (s x : Side) (vs : List Event) (last : Event) → LaidSide x → ReadsAlone vs last (x .records) → model.Carried (seenSide s) (seenSide x)
     → model.Carried (seenSide s) (seenSide (readSide vs x)) → unreadInOrder (seenOf (x .records)) ≡ putByReads vs
 unfolding seen
 unread-is s x vs last laid h before after =

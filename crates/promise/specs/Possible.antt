@@ -22,7 +22,7 @@ use Rattle.promise.specs.TwoEndsOnRecords.{Side, Ends, Turn, onA, onB, l
 -- what is lent to the calls of one end
 
 -- the lengths of the arrays of words
-pub record Sized (l : Lent) : Type 0 where
+pub record WordLengths (l : Lent) : Type 0 where
   pub sent : length (l .sent) ≡ 64
   pub held : length (l .held) ≡ 32
   pub queue : length (l .queue) ≡ 128
@@ -32,7 +32,7 @@ pub record Sized (l : Lent) : Type 0 where
 pub record Openable (segments clock : ℕ) (l : Lent) : Type 0 where
   pub accepted : openRefusal segments clock ≡ none
   pub stores : storesTest (l .outgoing) (l .incoming) (l .headers) ≡ false
-  pub words : Sized l
+  pub words : WordLengths l
 
 -- one end
 
@@ -41,7 +41,7 @@ abbrev pub Makes : List Request → List Event → Records → Type 0
 Makes [] [] x = Unit {0}
 Makes [] (v ∷ vs) x = ⊥
 Makes (q ∷ qs) [] x = ⊥
-Makes (q ∷ qs) (v ∷ vs) x = (v .request ≡ q) × Did x v × Sized (v .lent) × Makes qs vs (left v)
+Makes (q ∷ qs) (v ∷ vs) x = (v .request ≡ q) × Did x v × WordLengths (v .lent) × Makes qs vs (left v)
 
 -- From an open that is not refused, every list of requests, with any bytes to deliver, is that of some calls.
 abbrev pub EveryRun : Type 0

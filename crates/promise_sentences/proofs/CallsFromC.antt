@@ -60,7 +60,7 @@ use Rattle.promise_ways.specs.Calls.{outcomeOf, openedOf}
 use Rattle.promise_ways.proofs.FromC.{opened-back, step-known, opened-known, broken-is}
 use Rattle.promise_sentences.specs.Answers.{numbersInC}
 use Rattle.promise_sentences.specs.Calls.{Puts, freshNumbers, OpenSays, LookShows}
-use Rattle.promise_sentences.specs.CallsFromC.{SameNumbers, EquationsInC, RefusedInC, badHeader, DemandOneFromC}
+use Rattle.promise_sentences.specs.CallsFromC.{AnswerInNumbers, EquationsInC, RefusedInC, badHeader, DemandOneFromC}
 use Rattle.promise_sentences.proofs.Calls.{promises, take-says, read-says, look-shows, open-says, encodes, decodes}
 
 -- numbers that are known stand for themselves
@@ -98,7 +98,7 @@ totals-there t = refl
 
 -- an answer as numbers
 
-same-numbers : (a : Answer) (q : Step) (r : FlatStep) (after : Lent) → Agrees a q after → r ≡ flatStep q → SameNumbers a r after
+same-numbers : (a : Answer) (q : Step) (r : FlatStep) (after : Lent) → Agrees a q after → r ≡ flatStep q → AnswerInNumbers a r after
 unfolding flatStep
 same-numbers a q r after g is =
     record {

@@ -22,7 +22,7 @@ use Rattle.promise_ways.specs.FromC.{PlainSide, sideOf, CarriedInC}
 use Rattle.promise_ways.specs.Mixed.{CarriedEitherWay}
 use Rattle.promise_ways.proofs.FromC.{two-ends-from-c}
 use Rattle.promise_ways.proofs.Mixed.{two-ends-mixed}
-use Rattle.promise_sentences.specs.TwoEnds.{StoredIn, HeldIn, CarriesInModel, DemandThreeInModel, UnreadOn, BothOnRecords, DemandThreeOnRecords, UnreadInC, BothInC, DemandThreeFromC, UnreadMixed, DemandThreeMixed}
+use Rattle.promise_sentences.specs.TwoEnds.{StoredWith, HeldIn, CarriesInModel, DemandThreeInModel, UnreadOn, BothOnRecords, DemandThreeOnRecords, UnreadInC, BothInC, DemandThreeFromC, UnreadMixed, DemandThreeMixed}
 
 -- of lists
 
@@ -78,7 +78,7 @@ demand-three-in-model i j segmentsA segmentsB clockA clockB idI idJ openA openB 
 
 -- on the records
 
-stored-packet : (s : records.Side) (n : ℕ) (payload piece : Bytes) → StoredIn (seenOf (s .records)) n payload → records.StoredBy s n piece → payload ≡ piece
+stored-packet : (s : records.Side) (n : ℕ) (payload piece : Bytes) → StoredWith (seenOf (s .records)) n payload → records.StoredBy s n piece → payload ≡ piece
 stored-packet s n payload piece (p, e, q) b = sym q ∙ ap (λ (z : Packet). drop 20 (z .bytes)) (some-inj e (b .stored)) ∙ b .payload
 
 held-packet : (r : records.Side) (n : ℕ) (payload piece : Bytes) → HeldIn (seenOf (r .records)) n payload → records.HeldBy r n piece → payload ≡ piece
@@ -93,7 +93,7 @@ on-records Unread s r c is =
     let rest = joined (drop ack (s .past .pieces)) in
     let equation : (unread : Bytes) → Unread (r .records) unread → accepted ≡ read ++ (unread ++ rest) =
     λ unread h. c .accepted ∙ ap (λ (z : Bytes). read ++ (z ++ rest)) (sym (is unread h)) in
-    let stored : (n : ℕ) (payload : Bytes) → StoredIn (seenOf (s .records)) n payload → (n < length (s .past .pieces)) × (payload ≡ getD (s .past .pieces) n []) =
+    let stored : (n : ℕ) (payload : Bytes) → StoredWith (seenOf (s .records)) n payload → (n < length (s .past .pieces)) × (payload ≡ getD (s .past .pieces) n []) =
     λ n payload h. (let (l, b) = c .stored n (h .0) (h .1) in (l, stored-packet s n payload _ h b)) in
     let held : (n : ℕ) (payload : Bytes) → HeldIn (seenOf (r .records)) n payload → (n < length (s .past .pieces)) × (payload ≡ getD (s .past .pieces) n []) =
     λ n payload h. (let (l, b) = c .held n (h .0) (h .1) in (l, held-packet r n payload _ h b)) in (

@@ -1,5 +1,5 @@
 -- Demand 2 in the sentences of 01, 'What the contracts say', 1 and 2, refusal 1 and 'Added by design': after every list of calls from an
--- open the numbers are those of the definition (`Numbers`), the next call answers it (`Answering`), refusal 1 does not come, and look shows
+-- open the numbers are those of the definition (`StreamNumbers`), the next call answers it (`Answering`), refusal 1 does not come, and look shows
 -- the next datagram (`Shows`); on the records, from C, and with the ways mixed. Each sentence follows from a field of the promise that
 -- renders it. Statements only: the proofs are proofs/Answers.antt. Assumes nothing.
 use Prim.Native.Nat.{ℕ, _+_, _≤_, _<_}
@@ -41,7 +41,7 @@ use Rattle.promise_sentences.specs.ShutOut.{LiveAnswer}
 -- 01, 'Records': "Stream: seq, ack, remote acked, read cursor, inflight, window (cwnd), srtt, rttvar, rto, deadline, error, close state,
 -- largest ack since the last drive; also both ids, segment ceiling, clock of the last accepted call, clock of the last drive, how many
 -- queue entries that drive left to take, and whether it has ended", and the totals
-pub record Numbers : Type 0 where
+pub record StreamNumbers : Type 0 where
   pub local : ℕ
   pub remote : ℕ
   pub segments : ℕ
@@ -69,7 +69,7 @@ pub record Numbers : Type 0 where
   pub inflightPackets : ℕ
   pub inflightBytes : ℕ
 
-abbrev pub numbersOf : End → Numbers
+abbrev pub numbersOf : End → StreamNumbers
 numbersOf e =
     record {
       local = e .ids .local;
@@ -100,7 +100,7 @@ numbersOf e =
       inflightBytes = e .totals .inflightBytes;
     }
 
-abbrev pub numbersOn : Stream → Totals → Numbers
+abbrev pub numbersOn : Stream → Totals → StreamNumbers
 numbersOn s t =
     record {
       local = s .ids .local;
@@ -131,7 +131,7 @@ numbersOn s t =
       inflightBytes = t .«inflight_bytes»;
     }
 
-abbrev pub numbersInC : FlatStream → FlatTotals → Numbers
+abbrev pub numbersInC : FlatStream → FlatTotals → StreamNumbers
 numbersInC s t =
     record {
       local = s .ids .local;

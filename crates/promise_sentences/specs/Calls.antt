@@ -26,7 +26,7 @@ use Rattle.error.specs.declared.Refusal.the-variants.{BrokenRecords}
 use Rattle.error.specs.declared.Outcome.{Outcome}
 use Rattle.error.specs.declared.Outcome.the-variants.{Ready, Refused}
 use Rattle.packet.specs.declared.header.Decoded.the-variants.{Packet}
-use Rattle.packet.specs.declared.sack.Block.the-variants.{Range, End}
+use Rattle.packet.specs.declared.sack.Block.the-variants.{Range, NoMore}
 use Rattle.packet.specs.Header.{headerBytes, fields}
 use Rattle.packet.specs.LittleEndian.{word}
 use Rattle.packet.proofs.header.Header.encode as encode
@@ -62,7 +62,7 @@ use Rattle.udx.proofs.take.take as take-call
 use Rattle.udx.proofs.read.read as read
 use Rattle.udx.proofs.close.close as close
 use Rattle.udx.proofs.look.look as look
-use Rattle.promise_sentences.specs.Answers.{Numbers, numbersOn, Shows}
+use Rattle.promise_sentences.specs.Answers.{StreamNumbers, numbersOn, Shows}
 use Rattle.promise_sentences.specs.Refusals.{InOrder, openTestsOn}
 
 -- the sentences
@@ -81,7 +81,7 @@ pub record Puts (count : ℕ) (bytes before after : Bytes) : Type 0 where
   pub past : drop count after ≡ drop count before
 
 -- 01, 'Fresh': "numbers and totals 0, stores empty, no error, both sides open, window 2,800, rto 1,000 ms, deadline now + rto, queue empty"
-abbrev pub freshNumbers : (local remote segments clock : ℕ) → Numbers
+abbrev pub freshNumbers : (local remote segments clock : ℕ) → StreamNumbers
 freshNumbers local remote segments clock =
     record {
       local = local;
@@ -134,7 +134,7 @@ pub record LookShows (shown : Bytes) (s : Stream) (t : Totals) (l : Lent) : Type
 -- "Blocks are start (4) and end (4), end excluded, read while place + 8 is below the payload length."
 pub record ReadsBlock (payload : Bytes) (at : ℕ) (r : Next) : Type 0 where
   pub block : at + 8 < length payload → (r .block ≡ Range (word payload at) (word payload (at + 4))) × (r .at ≡ at + 8)
-  pub none-left : length payload ≤ at + 8 → (r .block ≡ End) × (r .at ≡ at)
+  pub none-left : length payload ≤ at + 8 → (r .block ≡ NoMore) × (r .at ≡ at)
 
 module _ {M : Type 1} (𝓤 : URA M) where
   open Connectives (connectives 𝓤) using (⌜_⌝)

@@ -55,7 +55,7 @@ use Rattle.promise_sentences.specs.Answers.{numbersInC}
 use Rattle.promise_sentences.specs.Calls.{Puts, freshNumbers, OpenSays, LookShows, Promises}
 
 -- the definition's answer, as numbers, and the records that the numbers handed back stand for
-pub record SameNumbers (a : Answer) (r : FlatStep) (after : Lent) : Type 0 where
+pub record AnswerInNumbers (a : Answer) (r : FlatStep) (after : Lent) : Type 0 where
   pub outcome : r .outcome ≡ outcomeByte (a .outcome)
   pub refusal : r .refusal ≡ refusalByte (a .outcome)
   pub count : r .count ≡ a .count
@@ -65,7 +65,7 @@ pub record SameNumbers (a : Answer) (r : FlatStep) (after : Lent) : Type 0 where
 
 -- "Every exported function's result, stream, totals and store bytes are equations in the call's inputs, for refused calls too"
 pub record EquationsInC (call : End → Answer) (s : FlatStream) (t : FlatTotals) (before : Lent) (r : FlatStep) (after : Lent) : Type 0 where
-  pub known : isStrange (s .ending) ≡ false → SameNumbers (onRecords call (streamOf s) (totalsOf t) before) r after
+  pub known : isStrange (s .ending) ≡ false → AnswerInNumbers (onRecords call (streamOf s) (totalsOf t) before) r after
   -- refusal 1: "a rule of the records is broken"
   pub strange : isStrange (s .ending) ≡ true → (r .outcome ≡ 4) × (r .refusal ≡ 1) × (r .count ≡ 0) × (r .segment ≡ 0)
 

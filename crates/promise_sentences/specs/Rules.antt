@@ -12,14 +12,14 @@ use Rattle.model.specs.Driving.{drive, take}
 use Rattle.model_rules.specs.NeverBroken.{HasSlots}
 
 -- the rules hold of both ends
-abbrev pub Stay : (before after : End) → Type 0
-Stay before after = HasSlots before → rules before ≡ true → HasSlots after × (rules after ≡ true)
+abbrev pub KeepRules : (before after : End) → Type 0
+KeepRules before after = HasSlots before → rules before ≡ true → HasSlots after × (rules after ≡ true)
 
 pub record RuleSentences : Type 0 where
-  pub write-keeps : (bytes : Bytes) (e : End) → Stay e ((write bytes e) .end)
-  pub deliver-keeps : (datagram : Bytes) (clock : ℕ) (e : End) → Stay e ((deliver datagram clock e) .end)
-  pub drive-keeps : (clock : ℕ) (e : End) → Stay e ((drive clock e) .end)
-  pub close-keeps : (e : End) → Stay e ((close e) .end)
+  pub write-keeps : (bytes : Bytes) (e : End) → KeepRules e ((write bytes e) .end)
+  pub deliver-keeps : (datagram : Bytes) (clock : ℕ) (e : End) → KeepRules e ((deliver datagram clock e) .end)
+  pub drive-keeps : (clock : ℕ) (e : End) → KeepRules e ((drive clock e) .end)
+  pub close-keeps : (e : End) → KeepRules e ((close e) .end)
   -- not so of every end
   pub read-breaks : (e : End) × HasSlots e × (rules e ≡ true) × (rules ((read 1 e) .end) ≡ false)
   pub take-breaks : (e : End) × HasSlots e × (rules e ≡ true) × (rules ((take 14_000 e) .end) ≡ false)

@@ -20,7 +20,7 @@ use Rattle.model.specs.Lists.{Bytes}
 use Rattle.records.specs.Open.{storesTest}
 use Rattle.session_kept.specs.Kept.{keptOf}
 use Rattle.session_ends.proofs.«fresh_end» as fresh
-use Rattle.session_commands.specs.Acts.{Laid}
+use Rattle.session_commands.specs.Acts.{LaidEnd}
 use Rattle.session_turn.specs.Session.{turn}
 use Rattle.session_turn.specs.Turned.{lends, sidesOf}
 use Rattle.session_turn.proofs.«open_ends» as open-ends
@@ -62,8 +62,8 @@ module _ {M : Type 1} (𝓤 : URA M) (H : Heap 𝓤) (A : Atoms 𝓤) (mem : Mem
       Promises 𝓤 (c .requires tt) (c .ensures tt r y) (at < length (now script) → (at < r .next) × (r .next ≤ length (now script)))
       × Promises 𝓤 (c .requires tt) (c .ensures tt r y)
       (at < length (now script)
-      → Laid (w .zero) (d .zero)
-      → Laid (w .one) (d .one)
+      → LaidEnd (w .zero) (d .zero)
+      → LaidEnd (w .one) (d .one)
       → (take (r .len) (now line′) ≡ turn (now script) at (sidesOf w d) .line) × (r .next ≡ turn (now script) at (sidesOf w d) .next))
 
   pub record SessionSentences : Type 2 where

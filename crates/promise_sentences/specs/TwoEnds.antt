@@ -61,8 +61,8 @@ pub record Lies (outgoing incoming : Bytes) (packets : List Bytes) (ack : ℕ) (
   pub held : (n i : ℕ) (payload : Bytes) → Held n payload → i < length payload → getD incoming (n % 32 * 1_380 + i) 0 ≡ getD payload i 0
 
 -- a packet of the model's under this number, whose payload is this
-abbrev pub StoredIn : End → ℕ → Bytes → Type 0
-StoredIn e n payload = (p : Packet) × (get (e .sender .outgoing) n ≡ some p) × (drop 20 (p .bytes) ≡ payload)
+abbrev pub StoredWith : End → ℕ → Bytes → Type 0
+StoredWith e n payload = (p : Packet) × (get (e .sender .outgoing) n ≡ some p) × (drop 20 (p .bytes) ≡ payload)
 
 abbrev pub HeldIn : End → ℕ → Bytes → Type 0
 HeldIn e n payload = (h : Held) × (get (e .receiver .incoming) n ≡ some h) × (h .payload ≡ payload)
@@ -72,7 +72,7 @@ HeldIn e n payload = (h : Held) × (get (e .receiver .incoming) n ≡ some h) ×
 abbrev pub CarriesInModel : (sender receiver : model.Side) → Type 0
 CarriesInModel s r =
     Carries (s .past .accepted) (r .past .reads) (s .past .pieces) (s .end .sender .seq) (r .end .receiver .ack) (r .past .brought) (λ unread. unread ≡ unreadInOrder (r .end))
-    (StoredIn (s .end)) (HeldIn (r .end))
+    (StoredWith (s .end)) (HeldIn (r .end))
 
 -- Either end may be the sender, here and below.
 abbrev pub DemandThreeInModel : Type 0
@@ -96,11 +96,11 @@ UnreadOn x unread = (vs : List Event) × (last : Event) × ReadsAlone vs last x 
 abbrev pub CarriesOnRecords : (Records → Bytes → Type 0) → (sender receiver : records.Side) → Type 0
 CarriesOnRecords Unread s r =
     Carries (s .past .accepted) (r .past .reads) (s .past .pieces) (s .records .stream .sender .seq) (r .records .stream .receiver .ack) (r .past .brought) (Unread (r .records))
-    (StoredIn (seenOf (s .records))) (HeldIn (seenOf (r .records)))
+    (StoredWith (seenOf (s .records))) (HeldIn (seenOf (r .records)))
 
 abbrev pub LiesOnRecords : (sender receiver : records.Side) → Type 0
 LiesOnRecords s r =
-    Lies (s .records .lent .outgoing) (r .records .lent .incoming) (s .past .pieces) (r .records .stream .receiver .ack) (StoredIn (seenOf (s .records)))
+    Lies (s .records .lent .outgoing) (r .records .lent .incoming) (s .past .pieces) (r .records .stream .receiver .ack) (StoredWith (seenOf (s .records)))
     (HeldIn (seenOf (r .records)))
 
 abbrev pub BothOnRecords : (Records → Bytes → Type 0) → (sender receiver : records.Side) → Type 0
@@ -126,9 +126,9 @@ UnreadInC x unread = (vs : List PlainEvent) × (last : PlainEvent) × PlainReads
 abbrev pub BothInC : (sender receiver : PlainSide) → Type 0
 BothInC s r =
     Carries (s .past .accepted) (r .past .reads) (s .past .pieces) (s .plain .stream .sender .seq) (r .plain .stream .receiver .ack) (r .past .brought) (UnreadInC (r .plain))
-    (StoredIn (seenOf (recordsOf (s .plain)))) (HeldIn (seenOf (recordsOf (r .plain))))
+    (StoredWith (seenOf (recordsOf (s .plain)))) (HeldIn (seenOf (recordsOf (r .plain))))
     × Lies (s .plain .lent .outgoing) (r .plain .lent .incoming) (s .past .pieces) (r .plain .stream .receiver .ack)
-    (StoredIn (seenOf (recordsOf (s .plain)))) (HeldIn (seenOf (recordsOf (r .plain))))
+    (StoredWith (seenOf (recordsOf (s .plain)))) (HeldIn (seenOf (recordsOf (r .plain))))
 
 abbrev pub DemandThreeFromC : Type 0
 DemandThreeFromC =

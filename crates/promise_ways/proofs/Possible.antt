@@ -17,7 +17,7 @@ use Rattle.promise.specs.Runs.{Records, Request, toWrite, toDeliver, toDrive, t
 use Rattle.promise.specs.TwoEndsOnRecords as records
 use Rattle.promise.specs.Possible.{Makes, Asked, ofA, ofB, askedBy, Traffic}
 use Rattle.promise.proofs.EveryCall.{every-run}
-use Rattle.promise.proofs.Line.{Laid, BothLaid, call-laid}
+use Rattle.promise.proofs.Line.{LaidSide, BothLaid, call-laid}
 use Rattle.promise.proofs.Runs.{open-stands}
 use Rattle.promise.proofs.Possible.{every-line, possible}
 use Rattle.promise.proofs.ReadOut.{Reads, reads-at, stands-laid}
@@ -204,7 +204,7 @@ reached (onB v ∷ cs) w k laid f =
     let o = one (w .b .plain) (v .request) (v .step) (v .lent) (v .buf) (k .1) (f .0 .0) in
     reached cs (plainTurned (onB v) w) (k .0, o .known) (laid .0, call-laid (eventOf v) (sideOf (w .b)) (laid .1) (o .does)) (f .1)
 
-read-out : (s r : PlainSide) → CarriedInC s r → isStrange (r .plain .stream .ending) ≡ false → Laid (sideOf r) → ReadOutInC s r
+read-out : (s r : PlainSide) → CarriedInC s r → isStrange (r .plain .stream .ending) ≡ false → LaidSide (sideOf r) → ReadOutInC s r
 read-out s r c k laid =
     let on = reads-at (sideOf r) laid in
     let t = reads-plain (on .reads) (on .last) (r .plain) k (on .alone) in
@@ -221,7 +221,7 @@ module _ (local remote segments clock : ℕ) (l : Lent) (o : FlatStep) (h : Open
   open-known : isStrange (o .stream .ending) ≡ false
   open-known = rw (h .opens .flat) (opened-known (h .opens .opened))
 
-  open-laid : Laid (sideOf (openedSide o l))
+  open-laid : LaidSide (sideOf (openedSide o l))
   open-laid = stands-laid (sideOf (openedSide o l)) _ (open-stands local remote segments clock l (openedOf o) (opened-in-c local remote segments clock l o h))
 
 pub every-read-out-from-c : EveryReadOutFromC

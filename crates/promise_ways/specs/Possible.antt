@@ -12,7 +12,7 @@ use Rattle.model_ends.specs.TwoEnds.{Id}
 use Rattle.records.specs.Seen.{Lent}
 use Rattle.promise.specs.Runs.{Request, toWrite, toDeliver, toDrive, toTake, toRead}
 use Rattle.promise.specs.TwoEndsOnRecords.{ackOf, putByReads}
-use Rattle.promise.specs.Possible.{Sized, Openable, Asked, ofA, ofB, commandsFor}
+use Rattle.promise.specs.Possible.{WordLengths, Openable, Asked, ofA, ofB, commandsFor}
 use Rattle.udx_c_numbers.specs.declared.structs.FlatStep.{FlatStep}
 use Rattle.promise_ways.specs.Calls.{Plain, PlainEvent, PlainDid, plainLeft, plainOpened, eventsOf, OpenedInC}
 use Rattle.promise_ways.specs.FromC.{PlainSide, sideOf, PlainEnds, PlainTurn, onA, onB, plainLastOf, PlainOverALine, bothOpenedInC, PlainReadsAlone}
@@ -24,7 +24,7 @@ abbrev pub MakesInC : List Request → List PlainEvent → Plain → Type 0
 MakesInC [] [] x = Unit {0}
 MakesInC [] (v ∷ vs) x = ⊥
 MakesInC (q ∷ qs) [] x = ⊥
-MakesInC (q ∷ qs) (v ∷ vs) x = (v .request ≡ q) × PlainDid x v × Sized (v .lent) × MakesInC qs vs (plainLeft v)
+MakesInC (q ∷ qs) (v ∷ vs) x = (v .request ≡ q) × PlainDid x v × WordLengths (v .lent) × MakesInC qs vs (plainLeft v)
 
 -- From a `udx_open` that answered ok, every list of requests, with any bytes to deliver, is that of some calls.
 abbrev pub EveryRunFromC : Type 0

@@ -21,15 +21,15 @@ use Rattle.udx.specs.Agree.{Agrees, Answers, onRecords, laidOut}
 use Rattle.promise.specs.Runs.{Records}
 use Rattle.promise.proofs.Runs.{agreed, puts, take-counts, read-counts}
 use Rattle.session_kept.specs.Kept.{keptOf, lastKept, fitted, segmentOf}
-use Rattle.session_ends.specs.declared.End.{End}
+use Rattle.session_ends.specs.declared.SessionEnd.{SessionEnd}
 use Rattle.session_ends.specs.declared.calls.Called.{Called}
-use Rattle.session_ends.specs.Calls.{Stores, lentOf, stepOf, Calls, Takes, Reads}
+use Rattle.session_ends.specs.Calls.{Stores, lentOf, stepOf, Calls, CallsTake, CallsRead}
 use Rattle.session_text.specs.declared.lines.Name.{Name}
 use Rattle.session_text.specs.declared.lines.Name.the-variants as name
 use Rattle.session_text.specs.Put.{Wrote}
 use Rattle.session_text.specs.Text.{lineOf, bytesLineOf}
-use Rattle.session_commands.specs.Acting.{Side, lined, linedRead, keptAfter}
-use Rattle.session_commands.specs.Acts.{sideOf, Laid, Acts, Keeps, KeepsBatch, rekept}
+use Rattle.session_commands.specs.Acting.{KeptEnd, lined, linedRead, keptAfter}
+use Rattle.session_commands.specs.Acts.{sideOf, LaidEnd, Acts, Keeps, KeepsBatch, rekept}
 
 -- a text that was put at the start of a buffer is its front
 pub first-of : (d d′ t : List ℕ) (r most : ℕ) → Wrote d d′ 0 r most t → take r d′ ≡ t
@@ -51,13 +51,13 @@ of-part buf n k e h =
     let same : n - 0 ≡ k = omega arith in
     sym (ap (λ (m : ℕ). length (take m buf)) same ∙ length-take-le k buf h)
 
-module _ (e : End) (b : Stores) (laid : Laid e b) where
+module _ (e : SessionEnd) (b : Stores) (laid : LaidEnd e b) where
   -- its records, as the theorems over lists of calls take them
   abbrev x : Records
   x = record { stream = e .stream; totals = e .totals; lent = lentOf e b }
 
   -- a command that is a call and its line
-  pub called : (call : model.End → Answer) (n : Name) (number : ℕ) (c : Called) (b′ : Stores) (kept : Bytes) (end : End) (len most : ℕ) (d d′ : Bytes)
+  pub called : (call : model.End → Answer) (n : Name) (number : ℕ) (c : Called) (b′ : Stores) (kept : Bytes) (end : SessionEnd) (len most : ℕ) (d d′ : Bytes)
       → Calls call e b c b′ → end ≡ c .end → Wrote d d′ 0 len most (lineOf n number (c .outcome) (c .count))
       → Acts (lined n number (call (sideOf e b kept .end)) (keptOf (e .kept) kept)) end b′ kept len d′
   called call n number c b′ kept end len most d d′ g same w =
@@ -70,7 +70,7 @@ module _ (e : End) (b : Stores) (laid : Laid e b) where
       })
 
   -- a take whose batch is kept
-  pub taken : (buf buf′ : Bytes) (c r : Called) (kept kept′ : Bytes) → Takes e b buf c buf′ → KeepsBatch c kept buf′ r kept′
+  pub taken : (buf buf′ : Bytes) (c r : Called) (kept kept′ : Bytes) → CallsTake e b buf c buf′ → KeepsBatch c kept buf′ r kept′
       → keptOf (r .end .kept) kept′ ≡ keptAfter (model-out.take (length buf) (sideOf e b kept .end)) (keptOf (e .kept) kept)
   taken buf buf′ c r kept kept′ g k =
       let call = model-out.take (length buf) in
@@ -79,7 +79,7 @@ module _ (e : End) (b : Stores) (laid : Laid e b) where
       k .keeps ∙ rw (g .keeps, p, a .segment) refl
 
   -- a read's line has the bytes that it put
-  pub was-read : (number : ℕ) (buf buf′ : Bytes) (c : Called) (kept : Bytes) (len most : ℕ) (d d′ shown : Bytes) → Reads e b buf c buf′
+  pub was-read : (number : ℕ) (buf buf′ : Bytes) (c : Called) (kept : Bytes) (len most : ℕ) (d d′ shown : Bytes) → CallsRead e b buf c buf′
       → shown ≡ take (c .count) buf′ → Wrote d d′ 0 len most (bytesLineOf name.Read number (c .outcome) (c .count) shown)
       → Acts (linedRead number (model-in.read (length buf) (sideOf e b kept .end)) (keptOf (e .kept) kept)) (c .end) b kept len d′
   was-read number buf buf′ c kept len most d d′ shown g front w =
@@ -95,7 +95,7 @@ module _ (e : End) (b : Stores) (laid : Laid e b) where
       }
 
 -- a take whose batch was kept
-pub kept-take : (e : End) (b : Stores) (buf buf′ : Bytes) (c r : Called) (kept kept′ : Bytes) → Takes e b buf c buf′ → KeepsBatch c kept buf′ r kept′
+pub kept-take : (e : SessionEnd) (b : Stores) (buf buf′ : Bytes) (c r : Called) (kept kept′ : Bytes) → CallsTake e b buf c buf′ → KeepsBatch c kept buf′ r kept′
     → Keeps e b (length buf) kept r kept′
 kept-take e b buf buf′ c r kept kept′ g k =
     record {
@@ -104,7 +104,7 @@ kept-take e b buf buf′ c r kept kept′ g k =
     }
 
 -- a take and its line
-pub take-lined : (e : End) (b : Stores) (number room : ℕ) (c : Called) (kept kept′ : Bytes) (end : End) (len most : ℕ) (d d′ : Bytes) → Laid e b
+pub take-lined : (e : SessionEnd) (b : Stores) (number room : ℕ) (c : Called) (kept kept′ : Bytes) (end : SessionEnd) (len most : ℕ) (d d′ : Bytes) → LaidEnd e b
     → room ≡ 14_000 → Keeps e b room kept c kept′ → end ≡ c .end → Wrote d d′ 0 len most (lineOf name.Take number (c .outcome) (c .count))
     → Acts (lined name.Take number (model-out.take 14_000 (sideOf e b kept .end)) (keptAfter (model-out.take 14_000 (sideOf e b kept .end)) (keptOf (e .kept) kept))) end b kept′ len d′
 take-lined e b number room c kept kept′ end len most d d′ laid is g same w =

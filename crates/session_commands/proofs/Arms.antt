@@ -12,16 +12,16 @@ use Rattle.model.specs.Lists.{Bytes}
 use Rattle.model.specs.Sending as model
 use Rattle.model.specs.Receiving as model-in
 use Rattle.model.specs.Driving as model-out
-use Rattle.session_ends.specs.declared.End.{End}
+use Rattle.session_ends.specs.declared.SessionEnd.{SessionEnd}
 use Rattle.session_ends.specs.Calls.{Stores}
 use Rattle.session_script.specs.declared.Command.{Command}
 use Rattle.session_script.specs.declared.Command.the-variants as command
 use Rattle.session_text.specs.declared.lines.Name.the-variants as name
-use Rattle.session_commands.specs.Acting.{Side, lined, linedRead, keptAfter, acted, hasDatagram, shortRead}
-use Rattle.session_commands.specs.Acts.{sideOf, Laid, Acts}
+use Rattle.session_commands.specs.Acting.{KeptEnd, lined, linedRead, keptAfter, acted, hasDatagram, shortRead}
+use Rattle.session_commands.specs.Acts.{sideOf, LaidEnd, Acts}
 
 -- `s` is what was seen of the end before the command; the end, its stores and the line are those after it
-module _ (k : Command) (s : Side) (theirs : List Bytes) (e : End) (b : Stores) (kept : Bytes) (len : ℕ) (text : Bytes) where
+module _ (k : Command) (s : KeptEnd) (theirs : List Bytes) (e : SessionEnd) (b : Stores) (kept : Bytes) (len : ℕ) (text : Bytes) where
   pub as-write : (number size fill : ℕ) → k ≡ command.Write number size fill
       → Acts (lined name.Write number (model.write (replicate size fill) (s .end)) (s .kept)) e b kept len text
       → Acts (acted k s theirs) e b kept len text
@@ -60,7 +60,7 @@ module _ (k : Command) (s : Side) (theirs : List Bytes) (e : End) (b : Stores) (
   as-close number is a = rw is a
 
 -- nothing is done, and the line is empty
-pub as-bad : (k : Command) (theirs : List Bytes) (e : End) (b : Stores) (kept text : Bytes) → k ≡ command.Bad → Laid e b
+pub as-bad : (k : Command) (theirs : List Bytes) (e : SessionEnd) (b : Stores) (kept text : Bytes) → k ≡ command.Bad → LaidEnd e b
     → Acts (acted k (sideOf e b kept) theirs) e b kept 0 text
 unfolding acted
 as-bad k theirs e b kept text is laid = rw is (record { side = refl; line = refl; laid = laid })

@@ -18,13 +18,13 @@ use Rattle.session_text.specs.declared.lines.Name.the-variants as name
 use Rattle.session_text.specs.Text.{lineOf, bytesLineOf}
 
 -- an end with the datagrams that are kept of it, the oldest first
-pub record Side : Type 0 where
+pub record KeptEnd : Type 0 where
   pub end : End
   pub kept : List Bytes
 
 -- the end after a command, and the command's line
 pub record Acted : Type 0 where
-  pub side : Side
+  pub side : KeptEnd
   pub line : List ℕ
 
 -- "A line has command, end, outcome .., count of bytes accepted, taken or put (else 0)"
@@ -41,7 +41,7 @@ abbrev pub keptAfter : Answer → List Bytes → List Bytes
 keptAfter a kept = lastKept (kept ++ map fitted (model-out.datagramsOf (a .segment) (a .bytes)))
 
 -- a command on the end that it is for; `theirs` are the datagrams kept of the other end
-unfoldable pub acted : Command → Side → List Bytes → Acted
+unfoldable pub acted : Command → KeptEnd → List Bytes → Acted
 acted (command.Write number size fill) s theirs = lined name.Write number (model.write (replicate size fill) (s .end)) (s .kept)
 acted (command.Drive number clock) s theirs = lined name.Drive number (model-out.drive (clock .0) (s .end)) (s .kept)
 acted (command.Take number) s theirs =

@@ -10,29 +10,29 @@ use Rattle.records.specs.Seen.{seen}
 use Rattle.udx.specs.Agree.{laidOut, Answers}
 use Rattle.session_kept.specs.declared.Kept.{Kept}
 use Rattle.session_kept.specs.Kept.{keptOf, lastKept, fitted, segmentOf}
-use Rattle.session_ends.specs.declared.End.{End}
+use Rattle.session_ends.specs.declared.SessionEnd.{SessionEnd}
 use Rattle.session_ends.specs.declared.calls.Called.{Called}
 use Rattle.session_ends.specs.Calls.{Stores, lentOf, stepOf}
-use Rattle.session_commands.specs.Acting.{Side, Acted, keptAfter}
+use Rattle.session_commands.specs.Acting.{KeptEnd, Acted, keptAfter}
 
 -- what is seen of an end: `b` are the stores lent beside it, `kept` the bytes of the datagrams kept of it
-abbrev pub sideOf : End → Stores → Bytes → Side
+abbrev pub sideOf : SessionEnd → Stores → Bytes → KeptEnd
 sideOf e b kept = record { end = seen (e .stream) (e .totals) (lentOf e b); kept = keptOf (e .kept) kept }
 
 -- its records are laid out as they should be: they are after an open, and stay so
-abbrev pub Laid : End → Stores → Type 0
-Laid e b = laidOut (e .stream) (lentOf e b) ≡ true
+abbrev pub LaidEnd : SessionEnd → Stores → Type 0
+LaidEnd e b = laidOut (e .stream) (lentOf e b) ≡ true
 
 -- an end after a command, and the first `len` bytes of the line's buffer, are what the session says
-pub record Acts (due : Acted) (e : End) (b : Stores) (kept : Bytes) (len : ℕ) (text : Bytes) : Type 0 where
+pub record Acts (due : Acted) (e : SessionEnd) (b : Stores) (kept : Bytes) (len : ℕ) (text : Bytes) : Type 0 where
   pub side : sideOf e b kept ≡ due .side
   pub line : take len text ≡ due .line
-  pub laid : Laid e b
+  pub laid : LaidEnd e b
 
 -- a take whose datagrams are kept
-pub record Keeps (e : End) (b : Stores) (room : ℕ) (kept : Bytes) (r : Called) (kept′ : Bytes) : Type 0 where
+pub record Keeps (e : SessionEnd) (b : Stores) (room : ℕ) (kept : Bytes) (r : Called) (kept′ : Bytes) : Type 0 where
   pub answers : Answers (model-out.take room) (e .stream) (e .totals) (lentOf e b) (stepOf r) (lentOf (r .end) b)
-  pub keeps : Laid e b → keptOf (r .end .kept) kept′ ≡ keptAfter (model-out.take room (seen (e .stream) (e .totals) (lentOf e b))) (keptOf (e .kept) kept)
+  pub keeps : LaidEnd e b → keptOf (r .end .kept) kept′ ≡ keptAfter (model-out.take room (seen (e .stream) (e .totals) (lentOf e b))) (keptOf (e .kept) kept)
 
 -- what a call answered, with other datagrams kept
 abbrev pub rekept : Called → Kept → Called

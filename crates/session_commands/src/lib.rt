@@ -12,7 +12,7 @@ ghost use Rattle.session_ends.specs.Calls.{stores, lentOf, Calls};
 ghost use Rattle.session_text.specs.Put.{Wrote};
 ghost use Rattle.session_text.specs.Text.{lineOf};
 ghost use Rattle.session_commands.specs.Acting.{linedRead, acted, hasDatagram, shortRead};
-ghost use Rattle.session_commands.specs.Acts.{sideOf, Laid, Acts, Keeps, KeepsBatch};
+ghost use Rattle.session_commands.specs.Acts.{sideOf, LaidEnd, Acts, Keeps, KeepsBatch};
 use constants::HEADER_STORE;
 use constants::INCOMING_STORE;
 use constants::OUTGOING_STORE;
@@ -20,7 +20,7 @@ use constants::TAKE_ROOM;
 use records::least;
 use rtt::Nanos;
 use session_ends::Called;
-use session_ends::End;
+use session_ends::SessionEnd;
 use session_kept::KEPT_STORE;
 use session_kept::Kept;
 use session_script::Command;
@@ -32,7 +32,7 @@ pub const SCRATCH: usize = 65_536;
 
 // An end after a command, and the length of the command's line.
 pub struct Acted {
-    pub end: End,
+    pub end: SessionEnd,
     pub len: usize,
 }
 
@@ -58,7 +58,7 @@ fn fill(buf: &mut [u8], byte: u8)
 
 // The buffer is filled, and written.
 fn write_filled(
-    e: End,
+    e: SessionEnd,
     byte: u8,
     buf: &mut [u8],
     outgoing: &mut [u8],
@@ -73,7 +73,7 @@ fn write_filled(
 
 // "01 write: end, length (2), fill byte"
 fn write(
-    e: End,
+    e: SessionEnd,
     size: u16,
     byte: u8,
     outgoing: &mut [u8],
@@ -107,7 +107,7 @@ fn keep(c: Called, kept: &mut [u8; KEPT_STORE], buf: &[u8]) -> Called
 
 // Takes into buf, and keeps the datagrams of the batch.
 fn take_into(
-    e: End,
+    e: SessionEnd,
     outgoing: &[u8],
     incoming: &[u8],
     headers: &[u8],
@@ -122,7 +122,7 @@ fn take_into(
 
 // Takes into a buffer of `room` bytes, the front of scratch, and keeps the datagrams of the batch.
 pub fn take_and_keep(
-    e: End,
+    e: SessionEnd,
     room: usize,
     outgoing: &[u8],
     incoming: &[u8],
@@ -138,7 +138,7 @@ pub fn take_and_keep(
 
 // "04 hand: receiving end, number of a datagram among the other end's last 32 taken"
 fn hand(
-    e: End,
+    e: SessionEnd,
     theirs: Kept,
     number: u16,
     clock: Nanos,
@@ -155,7 +155,7 @@ fn hand(
 
 // Reads into buf, and puts the read's line with its bytes.
 fn read_line(
-    e: End,
+    e: SessionEnd,
     number: u8,
     outgoing: &[u8],
     incoming: &[u8],
@@ -164,7 +164,7 @@ fn read_line(
     line: &mut [u8],
 ) -> Acted
     requires { ⌜ (length (now buf) ≤ 4_096) × (8_400 ≤ length (now line)) ⌝ }
-    ensures { λ r. ⌜ (r .len ≤ 8_400) × ((kept : _) → Laid e (stores (now (outgoing .entry)) (now (incoming .entry)) (now (headers .entry))) → Acts (linedRead number (receiving.read (length (now (buf .entry))) (sideOf e (stores (now (outgoing .entry)) (now (incoming .entry)) (now (headers .entry))) kept .end)) (keptOf (e .kept) kept)) (r .end) (stores (now (outgoing .entry)) (now (incoming .entry)) (now (headers .entry))) kept (r .len) (now (line .exit))) ⌝ }
+    ensures { λ r. ⌜ (r .len ≤ 8_400) × ((kept : _) → LaidEnd e (stores (now (outgoing .entry)) (now (incoming .entry)) (now (headers .entry))) → Acts (linedRead number (receiving.read (length (now (buf .entry))) (sideOf e (stores (now (outgoing .entry)) (now (incoming .entry)) (now (headers .entry))) kept .end)) (keptOf (e .kept) kept)) (r .end) (stores (now (outgoing .entry)) (now (incoming .entry)) (now (headers .entry))) kept (r .len) (now (line .exit))) ⌝ }
 {
     let c = session_ends::read(e, outgoing, incoming, headers, buf);
     let put = least(c.count, buf.len());
@@ -183,7 +183,7 @@ fn read_line(
 
 // "05 read: end, length (2, to 4,096)"
 fn read(
-    e: End,
+    e: SessionEnd,
     number: u8,
     size: u16,
     outgoing: &[u8],
@@ -193,7 +193,7 @@ fn read(
     line: &mut [u8],
 ) -> Acted
     requires { ⌜ (65_536 ≤ length (now scratch)) × (8_400 ≤ length (now line)) ⌝ }
-    ensures { λ r. ⌜ (r .len ≤ 8_400) × ((kept : _) → size ≤ 4_096 → Laid e (stores (now (outgoing .entry)) (now (incoming .entry)) (now (headers .entry))) → Acts (linedRead number (receiving.read size (sideOf e (stores (now (outgoing .entry)) (now (incoming .entry)) (now (headers .entry))) kept .end)) (keptOf (e .kept) kept)) (r .end) (stores (now (outgoing .entry)) (now (incoming .entry)) (now (headers .entry))) kept (r .len) (now (line .exit))) ⌝ }
+    ensures { λ r. ⌜ (r .len ≤ 8_400) × ((kept : _) → size ≤ 4_096 → LaidEnd e (stores (now (outgoing .entry)) (now (incoming .entry)) (now (headers .entry))) → Acts (linedRead number (receiving.read size (sideOf e (stores (now (outgoing .entry)) (now (incoming .entry)) (now (headers .entry))) kept .end)) (keptOf (e .kept) kept)) (r .end) (stores (now (outgoing .entry)) (now (incoming .entry)) (now (headers .entry))) kept (r .len) (now (line .exit))) ⌝ }
 {
     let n = least(size as usize, 4_096);
     read_line(
@@ -209,7 +209,7 @@ fn read(
 
 // One command on an end. `mine` are the bytes of the datagrams kept of it, `kept` those of the other end, which `theirs` tells of.
 pub fn act(
-    e: End,
+    e: SessionEnd,
     theirs: Kept,
     command: Command,
     outgoing: &mut [u8; OUTGOING_STORE],
@@ -221,7 +221,7 @@ pub fn act(
     line: &mut [u8; LINE],
 ) -> Acted
     ensures { λ r. ⌜ r .len ≤ 8_400 ⌝ }
-    ensures { λ r. ⌜ (Laid e (stores (now (outgoing .entry)) (now (incoming .entry)) (now (headers .entry))) → hasDatagram command (keptOf theirs (now (kept .entry))) ≡ true → shortRead command ≡ true → Acts (acted command (sideOf e (stores (now (outgoing .entry)) (now (incoming .entry)) (now (headers .entry))) (now (mine .entry))) (keptOf theirs (now (kept .entry)))) (r .end) (stores (now (outgoing .exit)) (now (incoming .exit)) (now (headers .exit))) (now (mine .exit)) (r .len) (now (line .exit))) ⌝ }
+    ensures { λ r. ⌜ (LaidEnd e (stores (now (outgoing .entry)) (now (incoming .entry)) (now (headers .entry))) → hasDatagram command (keptOf theirs (now (kept .entry))) ≡ true → shortRead command ≡ true → Acts (acted command (sideOf e (stores (now (outgoing .entry)) (now (incoming .entry)) (now (headers .entry))) (now (mine .entry))) (keptOf theirs (now (kept .entry)))) (r .end) (stores (now (outgoing .exit)) (now (incoming .exit)) (now (headers .exit))) (now (mine .exit)) (r .len) (now (line .exit))) ⌝ }
 {
     match command {
         Command::Write {

@@ -16,7 +16,7 @@ use Rattle.udx.specs.Agree.{Answers}
 use Rattle.udx.specs.Take.{Hands}
 use Rattle.udx.specs.Read.{Gives}
 use Rattle.session_kept.specs.Kept.{keptOf}
-use Rattle.session_ends.specs.declared.End.{End}
+use Rattle.session_ends.specs.declared.SessionEnd.{SessionEnd}
 use Rattle.session_ends.specs.declared.calls.Called.{Called}
 
 -- the stores that are lent beside an end
@@ -29,7 +29,7 @@ abbrev pub stores : (outgoing incoming headers : Bytes) → Stores
 stores outgoing incoming headers = record { outgoing = outgoing; incoming = incoming; headers = headers }
 
 -- what a call of `udx` is lent: the end's words, and the stores
-abbrev pub lentOf : End → Stores → Lent
+abbrev pub lentOf : SessionEnd → Stores → Lent
 lentOf e b = lent (e .sent) (e .held) (e .queue) (b .outgoing) (b .incoming) (b .headers)
 
 -- the step of `udx` in what a call on an end answers
@@ -37,7 +37,7 @@ abbrev pub stepOf : Called → Step
 stepOf r = record { stream = r .end .stream; totals = r .end .totals; outcome = r .outcome; count = r .count; segment = r .segment }
 
 -- an end after a step that left these words
-abbrev pub steppedOf : End → Step → (sent held queue : List ℕ) → Called
+abbrev pub steppedOf : SessionEnd → Step → (sent held queue : List ℕ) → Called
 steppedOf e x sent held queue =
     record {
       end = record { stream = x .stream; totals = x .totals; sent = sent; held = held; queue = queue; kept = e .kept };
@@ -47,23 +47,23 @@ steppedOf e x sent held queue =
     }
 
 -- write, deliver, drive and close
-pub record Calls (call : model.End → Answer) (e : End) (before : Stores) (r : Called) (after : Stores) : Type 0 where
+pub record Calls (call : model.End → Answer) (e : SessionEnd) (before : Stores) (r : Called) (after : Stores) : Type 0 where
   pub answers : Answers call (e .stream) (e .totals) (lentOf e before) (stepOf r) (lentOf (r .end) after)
   pub keeps : r .end .kept ≡ e .kept
 
 -- take and read, which change no store: `buf` before, `buf′` after
 
-pub record Takes (e : End) (b : Stores) (buf : Bytes) (r : Called) (buf′ : Bytes) : Type 0 where
+pub record CallsTake (e : SessionEnd) (b : Stores) (buf : Bytes) (r : Called) (buf′ : Bytes) : Type 0 where
   pub hands : Hands (e .stream) (e .totals) (lentOf e b) buf (stepOf r) (lentOf (r .end) b) buf′
   pub keeps : r .end .kept ≡ e .kept
 
-pub record Reads (e : End) (b : Stores) (buf : Bytes) (r : Called) (buf′ : Bytes) : Type 0 where
+pub record CallsRead (e : SessionEnd) (b : Stores) (buf : Bytes) (r : Called) (buf′ : Bytes) : Type 0 where
   pub gives : Gives (e .stream) (e .totals) (lentOf e b) buf (stepOf r) (lentOf (r .end) b) buf′
   pub keeps : r .end .kept ≡ e .kept
 
 -- 01, 'The session program': "opened at clock 0 with ceiling 10". Its stream and totals are those that such an open hands out, its words
 -- are zeros, and no datagram is kept of it.
-pub record Fresh (local remote : ℕ) (b : Stores) (r : End) : Type 0 where
+pub record Fresh (local remote : ℕ) (b : Stores) (r : SessionEnd) : Type 0 where
   pub outcome : Outcome
   pub opens : Opens local remote 10 0 (b .outgoing) (b .incoming) (b .headers) (record { outcome = outcome; stream = r .stream; totals = r .totals })
   pub sent : r .sent ≡ replicate 64 0

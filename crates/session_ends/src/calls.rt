@@ -4,29 +4,29 @@ ghost use Rattle.model.specs.Sending as sending;
 ghost use Rattle.model.specs.Receiving as receiving;
 ghost use Rattle.model.specs.Driving as driving;
 ghost use Rattle.udx.specs.Look.{shownOf};
-ghost use Rattle.session_ends.specs.Calls.{stores, lentOf, steppedOf, Calls, Takes, Reads};
-use crate::End;
+ghost use Rattle.session_ends.specs.Calls.{stores, lentOf, steppedOf, Calls, CallsTake, CallsRead};
+use crate::SessionEnd;
 use error::Outcome;
 use rtt::Nanos;
 use udx::Step;
 
 // An end after a call, and what the call answered.
 pub struct Called {
-    pub end: End,
+    pub end: SessionEnd,
     pub outcome: Outcome,
     pub count: usize,
     pub segment: usize,
 }
 
 // An end after a step that left these words.
-fn stepped(e: End, step: Step, sent: [u64; 64], held: [u64; 32], queue: [u64; 128]) -> Called
+fn stepped(e: SessionEnd, step: Step, sent: [u64; 64], held: [u64; 32], queue: [u64; 128]) -> Called
     ensures { λ r. ⌜ r ≡ steppedOf e step sent held queue ⌝ }
 {
     let stream = step.stream;
     let totals = step.totals;
     let kept = e.kept;
     let outcome = step.outcome;
-    let end = End {
+    let end = SessionEnd {
         stream,
         totals,
         sent,
@@ -42,7 +42,13 @@ fn stepped(e: End, step: Step, sent: [u64; 64], held: [u64; 32], queue: [u64; 12
     }
 }
 
-pub fn write(e: End, bytes: &[u8], outgoing: &mut [u8], incoming: &[u8], headers: &[u8]) -> Called
+pub fn write(
+    e: SessionEnd,
+    bytes: &[u8],
+    outgoing: &mut [u8],
+    incoming: &[u8],
+    headers: &[u8],
+) -> Called
     ensures { λ r. ⌜ Calls (sending.write (now (bytes .entry))) e (stores (now (outgoing .entry)) (now (incoming .entry)) (now (headers .entry))) r (stores (now (outgoing .exit)) (now (incoming .entry)) (now (headers .entry))) ⌝ }
 {
     let mut sent = e.sent;
@@ -63,7 +69,7 @@ pub fn write(e: End, bytes: &[u8], outgoing: &mut [u8], incoming: &[u8], headers
 }
 
 pub fn deliver(
-    e: End,
+    e: SessionEnd,
     datagram: &[u8],
     clock: Nanos,
     outgoing: &[u8],
@@ -90,7 +96,13 @@ pub fn deliver(
     stepped(e, step, sent, held, queue)
 }
 
-pub fn drive(e: End, clock: Nanos, outgoing: &[u8], incoming: &[u8], headers: &mut [u8]) -> Called
+pub fn drive(
+    e: SessionEnd,
+    clock: Nanos,
+    outgoing: &[u8],
+    incoming: &[u8],
+    headers: &mut [u8],
+) -> Called
     ensures { λ r. ⌜ Calls (driving.drive (clock .0)) e (stores (now (outgoing .entry)) (now (incoming .entry)) (now (headers .entry))) r (stores (now (outgoing .entry)) (now (incoming .entry)) (now (headers .exit))) ⌝ }
 {
     let mut sent = e.sent;
@@ -110,8 +122,14 @@ pub fn drive(e: End, clock: Nanos, outgoing: &[u8], incoming: &[u8], headers: &m
     stepped(e, step, sent, held, queue)
 }
 
-pub fn take(e: End, outgoing: &[u8], incoming: &[u8], headers: &[u8], buf: &mut [u8]) -> Called
-    ensures { λ r. ⌜ Takes e (stores (now (outgoing .entry)) (now (incoming .entry)) (now (headers .entry))) (now (buf .entry)) r (now (buf .exit)) ⌝ }
+pub fn take(
+    e: SessionEnd,
+    outgoing: &[u8],
+    incoming: &[u8],
+    headers: &[u8],
+    buf: &mut [u8],
+) -> Called
+    ensures { λ r. ⌜ CallsTake e (stores (now (outgoing .entry)) (now (incoming .entry)) (now (headers .entry))) (now (buf .entry)) r (now (buf .exit)) ⌝ }
 {
     let mut sent = e.sent;
     let held = e.held;
@@ -130,8 +148,14 @@ pub fn take(e: End, outgoing: &[u8], incoming: &[u8], headers: &[u8], buf: &mut 
     stepped(e, step, sent, held, queue)
 }
 
-pub fn read(e: End, outgoing: &[u8], incoming: &[u8], headers: &[u8], buf: &mut [u8]) -> Called
-    ensures { λ r. ⌜ Reads e (stores (now (outgoing .entry)) (now (incoming .entry)) (now (headers .entry))) (now (buf .entry)) r (now (buf .exit)) ⌝ }
+pub fn read(
+    e: SessionEnd,
+    outgoing: &[u8],
+    incoming: &[u8],
+    headers: &[u8],
+    buf: &mut [u8],
+) -> Called
+    ensures { λ r. ⌜ CallsRead e (stores (now (outgoing .entry)) (now (incoming .entry)) (now (headers .entry))) (now (buf .entry)) r (now (buf .exit)) ⌝ }
 {
     let sent = e.sent;
     let mut held = e.held;
@@ -150,7 +174,7 @@ pub fn read(e: End, outgoing: &[u8], incoming: &[u8], headers: &[u8], buf: &mut 
     stepped(e, step, sent, held, queue)
 }
 
-pub fn close(e: End, outgoing: &[u8], incoming: &[u8], headers: &mut [u8]) -> Called
+pub fn close(e: SessionEnd, outgoing: &[u8], incoming: &[u8], headers: &mut [u8]) -> Called
     ensures { λ r. ⌜ Calls sending.close e (stores (now (outgoing .entry)) (now (incoming .entry)) (now (headers .entry))) r (stores (now (outgoing .entry)) (now (incoming .entry)) (now (headers .exit))) ⌝ }
 {
     let sent = e.sent;
@@ -169,7 +193,7 @@ pub fn close(e: End, outgoing: &[u8], incoming: &[u8], headers: &mut [u8]) -> Ca
     stepped(e, step, sent, held, queue)
 }
 
-pub fn look<'a>(e: End, outgoing: &'a [u8], incoming: &[u8], headers: &'a [u8]) -> &'a [u8]
+pub fn look<'a>(e: SessionEnd, outgoing: &'a [u8], incoming: &[u8], headers: &'a [u8]) -> &'a [u8]
     ensures { λ r. ⌜ now r ≡ shownOf (e .stream) (e .totals) (lentOf e (stores (now (outgoing .entry)) (now (incoming .entry)) (now (headers .entry)))) ⌝ }
 {
     let sent = e.sent;

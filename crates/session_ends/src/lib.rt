@@ -16,7 +16,7 @@ use records::Totals;
 use rtt::Nanos;
 use session_kept::Kept;
 
-pub struct End {
+pub struct SessionEnd {
     pub stream: Stream,
     pub totals: Totals,
     pub sent: [u64; 64],
@@ -26,14 +26,20 @@ pub struct End {
 }
 
 // "opened at clock 0 with ceiling 10"
-pub fn fresh_end(local: u32, remote: u32, outgoing: &[u8], incoming: &[u8], headers: &[u8]) -> End
+pub fn fresh_end(
+    local: u32,
+    remote: u32,
+    outgoing: &[u8],
+    incoming: &[u8],
+    headers: &[u8],
+) -> SessionEnd
     ensures { λ r. ⌜ Fresh local remote (stores (now (outgoing .entry)) (now (incoming .entry)) (now (headers .entry))) r ⌝ }
 {
     let o = udx::open::open(local, remote, 10, Nanos(0), outgoing, incoming, headers);
     let stream = o.stream;
     let totals = o.totals;
     let kept = session_kept::no_datagrams();
-    End {
+    SessionEnd {
         stream,
         totals,
         sent: [0; 64],

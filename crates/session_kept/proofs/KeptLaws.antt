@@ -18,7 +18,7 @@ use Rattle.records.proofs.Table.{table-length, table-get, table-same}
 use Rattle.records.specs.Put.{put}
 use Rattle.records.proofs.Put.{put-same, put-before, put-after}
 use Rattle.session_kept.specs.declared.Kept.{Kept}
-use Rattle.session_kept.specs.Kept.{slotSize, countOf, slotOf, slotBytes, keptOf, lastKept, fitted, PutInSlot, OneMore}
+use Rattle.session_kept.specs.Kept.{slotSize, countOf, slotOf, slotBytes, keptOf, lastKept, fitted, PutInSlot, OneMoreKept}
 
 pub slot-is : slotSize ≡ 1_400
 unfolding slotSize
@@ -144,7 +144,7 @@ module _ (m : ℕ) (f g : ℕ → Bytes) (x : Bytes) (new : f m ≡ x) where
       table-last m f ∙ ap₂ {C = List Bytes} (λ (t : List Bytes) (y : Bytes). t ++ (y ∷ [])) (table-same m f (λ i. g (suc i)) same) new
       ∙ sym (last-full (g 0) (table m (λ i. g (suc i))) x (table-length m (λ i. g (suc i)) ∙ h))
 
-module _ (k p r : Kept) (d store after : Bytes) (put : PutInSlot k (slotOf k (countOf k)) d store p after) (more : OneMore p r) where
+module _ (k p r : Kept) (d store after : Bytes) (put : PutInSlot k (slotOf k (countOf k)) d store p after) (more : OneMoreKept p r) where
   -- of the numbers only the length of a slot matters for its bytes
   same-slot : (i : ℕ) → slotBytes r after i ≡ slotBytes p after i
   unfolding slotBytes

@@ -63,7 +63,7 @@ pub record PutInSlot (k : Kept) (i : ℕ) (d : Bytes) (store : Bytes) (r : Kept)
   pub others : (j : ℕ) → j < 32 → j ≢ i → slotBytes r after j ≡ slotBytes k store j
 
 -- the slot behind the newest counts too; with 32 kept the oldest leaves
-pub record OneMore (k r : Kept) : Type 0 where
+pub record OneMoreKept (k r : Kept) : Type 0 where
   pub lengths : r .lengths ≡ k .lengths
   pub room : countOf k < 32 → (r .first ≡ k .first) × (r .count ≡ countOf k + 1)
   pub full : 32 ≤ countOf k → (r .first ≡ slotOf k 1) × (r .count ≡ 32)

@@ -7,7 +7,7 @@ ghost use lib.Dec.{ltb};
 ghost use lib.ListN.{length, getD};
 ghost use Rattle.model.specs.Lists.{Bytes};
 ghost use Rattle.model.specs.Driving.{datagramsOf};
-ghost use Rattle.session_kept.specs.Kept.{countOf, slotOf, slotBytes, keptOf, lastKept, fitted, segmentOf, NextPiece, PutInSlot, OneMore};
+ghost use Rattle.session_kept.specs.Kept.{countOf, slotOf, slotBytes, keptOf, lastKept, fitted, segmentOf, NextPiece, PutInSlot, OneMoreKept};
 use records::least;
 
 // Bytes of the store that they stand in, 32 slots.
@@ -86,7 +86,7 @@ fn put_in(k: Kept, i: usize, datagram: &[u8], kept: &mut [u8]) -> Kept
 
 // The slot behind the newest one counted too; with 32 kept it was the oldest one's.
 fn one_more(k: Kept) -> Kept
-    ensures { λ r. ⌜ OneMore k r ⌝ }
+    ensures { λ r. ⌜ OneMoreKept k r ⌝ }
 {
     let count = kept_count(k);
     let mut r = k;

@@ -20,7 +20,7 @@ use Rattle.model.specs.Lists.{Bytes}
 use Rattle.session_ends.specs.Calls.{stores, Fresh}
 use Rattle.session_ends.proofs.«fresh_end» as fresh
 use Rattle.session_turn.specs.Turned.{lends}
-use Rattle.session_turn.specs.Whole.{Made, GoesOn, IsTurn, OpenedEnds}
+use Rattle.session_turn.specs.Whole.{MadeTurn, TurnGoesOn, IsTurn, OpenedEnds}
 use Rattle.session_turn.proofs.opening.«open_ends» as open-ends
 use Rattle.session_turn.proofs.running.«run_one» as run-one
 
@@ -59,9 +59,9 @@ module _ {M : Type 1} (𝓤 : URA M) (H : Heap 𝓤) (A : Atoms 𝓤) (mem : Mem
       let (_, (_, (_, (o₀′, (i₀′, (h₀′, (k₀′, (o₁′, (i₁′, (h₁′, (k₁′, (_, (line′, _))))))))))))) = y in
       let d = lends (now o₀) (now i₀) (now h₀) (now k₀) (now o₁) (now i₁) (now h₁) (now k₁) in
       let d′ = lends (now o₀′) (now i₀′) (now h₀′) (now k₀′) (now o₁′) (now i₁′) (now h₁′) (now k₁′) in
-      let t : Made = record { turn = r; lends = d′; text = now line′ } in
+      let t : MadeTurn = record { turn = r; lends = d′; text = now line′ } in
       let c = run-one.clauses 𝓤 H A mem run κs x in
-      (c .requires tt ≡ ⊤ₛ) × (c .ensures tt r y ≡ (⌜ GoesOn (now script) at t ⌝ ∗ ⌜ IsTurn (now script) at w d t ⌝))
+      (c .requires tt ≡ ⊤ₛ) × (c .ensures tt r y ≡ (⌜ TurnGoesOn (now script) at t ⌝ ∗ ⌜ IsTurn (now script) at w d t ⌝))
 
   pub runs-one : RunOne
   runs-one κs x r y = (refl, refl)

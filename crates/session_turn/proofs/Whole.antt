@@ -18,14 +18,14 @@ use Rattle.records.specs.declared.«open».Opened.{Opened}
 use Rattle.records.specs.Seen.{Lent}
 use Rattle.promise.specs.Runs.{OpenedBy}
 use Rattle.promise.proofs.Runs.{Stands, open-stands}
-use Rattle.session_ends.specs.declared.End.{End}
+use Rattle.session_ends.specs.declared.SessionEnd.{SessionEnd}
 use Rattle.session_ends.specs.Calls.{Stores, lentOf, Fresh}
-use Rattle.session_commands.specs.Acting.{Side}
-use Rattle.session_commands.specs.Acts.{sideOf, Laid}
+use Rattle.session_commands.specs.Acting.{KeptEnd}
+use Rattle.session_commands.specs.Acts.{sideOf, LaidEnd}
 use Rattle.session_turn.specs.declared.running.Ends.{Ends}
 use Rattle.session_turn.specs.Session.{Sides, opened, openedSides, turn, printedFrom, session}
-use Rattle.session_turn.specs.Turned.{Turned, Lends, sidesOf, Plays}
-use Rattle.session_turn.specs.Whole.{Made, Makes, RunsFrom, printedBy, Sized, OpenedEnds, WholeSession}
+use Rattle.session_turn.specs.Turned.{Turned, SessionLends, sidesOf, Plays}
+use Rattle.session_turn.specs.Whole.{MadeTurn, MakesTurn, RunsFrom, printedBy, StoreLengths, OpenedEnds, WholeSession}
 
 -- the turns
 
@@ -40,7 +40,7 @@ module _ (script : Bytes) where
       → printedFrom (suc k) script at s ≡ turn script at s .line ++ printedFrom k script (turn script at s .next) (turn script at s .sides)
   one-turn k at s h = rw (lt-ltb at (length script) h) refl
 
-  runs : (ts : List Made) (k at : ℕ) (w : Ends) (d : Lends) → length script ≤ at + k → Laid (w .zero) (d .zero) → Laid (w .one) (d .one)
+  runs : (ts : List MadeTurn) (k at : ℕ) (w : Ends) (d : SessionLends) → length script ≤ at + k → LaidEnd (w .zero) (d .zero) → LaidEnd (w .one) (d .one)
       → RunsFrom script at w d ts → printedBy ts ≡ printedFrom k script at (sidesOf w d)
   runs [] k at w d enough laid-zero laid-one r = at-the-end k at (sidesOf w d) r
   runs (t ∷ ts) zero at w d enough laid-zero laid-one r = absurd (let h = r .0 in omega arith)
@@ -56,7 +56,7 @@ module _ (script : Bytes) where
 
 -- the ends that are handed out
 
-module _ (local remote : ℕ) (b : Stores) (e : End) (f : Fresh local remote b e) (fits : Sized b) where
+module _ (local remote : ℕ) (b : Stores) (e : SessionEnd) (f : Fresh local remote b e) (fits : StoreLengths b) where
   open-ready : openWhy 10 0 (b .outgoing) (b .incoming) (b .headers) ≡ none
   unfolding openWhy
   open-ready = rw fits refl

@@ -11,13 +11,13 @@ use Rattle.session_script.specs.declared.Command.{Command}
 use Rattle.session_script.specs.declared.Command.the-variants as command
 use Rattle.session_script.specs.Script.{parsedOf}
 use Rattle.session_text.specs.Text.{scriptLineOf}
-use Rattle.session_commands.specs.Acting.{Side, Acted, acted, hasDatagram}
+use Rattle.session_commands.specs.Acting.{KeptEnd, Acted, acted, hasDatagram}
 
 pub record Sides : Type 0 where
-  pub zero : Side
-  pub one : Side
+  pub zero : KeptEnd
+  pub one : KeptEnd
 
-abbrev pub opened : (local remote : ℕ) → Side
+abbrev pub opened : (local remote : ℕ) → KeptEnd
 opened local remote = record { end = fresh local remote 10 0; kept = [] }
 
 -- "ends 0 (id 1) and 1 (id 2), opened at clock 0 with ceiling 10"

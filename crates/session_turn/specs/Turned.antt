@@ -5,7 +5,7 @@ use lib.ListN.{length, take, drop}
 use Rattle.model.specs.Lists.{Bytes}
 use Rattle.session_ends.specs.Calls.{Stores, stores}
 use Rattle.session_script.specs.Script.{parsedOf}
-use Rattle.session_commands.specs.Acts.{sideOf, Laid}
+use Rattle.session_commands.specs.Acts.{sideOf, LaidEnd}
 use Rattle.session_turn.specs.declared.running.Ends.{Ends}
 use Rattle.session_turn.specs.declared.running.Placed.{Placed}
 use Rattle.session_turn.specs.declared.running.Turn.{Turn}
@@ -25,13 +25,13 @@ pub record Parsed (script : Bytes) (at : ℕ) (r : Placed) : Type 0 where
   pub within : r .next ≤ length script
 
 -- what is lent beside both ends: the stores of each, and the bytes of the datagrams kept of it
-pub record Lends : Type 0 where
+pub record SessionLends : Type 0 where
   pub zero : Stores
   pub kept-zero : Bytes
   pub one : Stores
   pub kept-one : Bytes
 
-abbrev pub lends : (outgoing-zero incoming-zero headers-zero kept-zero outgoing-one incoming-one headers-one kept-one : Bytes) → Lends
+abbrev pub lends : (outgoing-zero incoming-zero headers-zero kept-zero outgoing-one incoming-one headers-one kept-one : Bytes) → SessionLends
 lends outgoing-zero incoming-zero headers-zero kept-zero outgoing-one incoming-one headers-one kept-one =
     record {
       zero = stores outgoing-zero incoming-zero headers-zero;
@@ -41,13 +41,13 @@ lends outgoing-zero incoming-zero headers-zero kept-zero outgoing-one incoming-o
     }
 
 -- what is seen of both ends
-abbrev pub sidesOf : Ends → Lends → Sides
+abbrev pub sidesOf : Ends → SessionLends → Sides
 sidesOf w d = record { zero = sideOf (w .zero) (d .zero) (d .kept-zero); one = sideOf (w .one) (d .one) (d .kept-one) }
 
 -- a turn is the session's: the ends, the next place, and the line at the front of its buffer
-pub record Plays (due : Played) (r : Turn) (d : Lends) (text : Bytes) : Type 0 where
+pub record Plays (due : Played) (r : Turn) (d : SessionLends) (text : Bytes) : Type 0 where
   pub sides : sidesOf (r .ends) d ≡ due .sides
   pub next : r .next ≡ due .next
   pub line : take (r .len) text ≡ due .line
-  pub laid-zero : Laid (r .ends .zero) (d .zero)
-  pub laid-one : Laid (r .ends .one) (d .one)
+  pub laid-zero : LaidEnd (r .ends .zero) (d .zero)
+  pub laid-one : LaidEnd (r .ends .one) (d .one)

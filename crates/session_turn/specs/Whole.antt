@@ -9,56 +9,56 @@ use lib.ListN.{length, take}
 use Rattle.model.specs.Lists.{Bytes}
 use Rattle.records.specs.Open.{storesTest}
 use Rattle.session_ends.specs.Calls.{Stores, Fresh}
-use Rattle.session_commands.specs.Acts.{Laid}
+use Rattle.session_commands.specs.Acts.{LaidEnd}
 use Rattle.session_turn.specs.declared.running.Ends.{Ends}
 use Rattle.session_turn.specs.declared.running.Turn.{Turn}
 use Rattle.session_turn.specs.Session.{turn, session}
-use Rattle.session_turn.specs.Turned.{Turned, Lends, sidesOf, Plays}
+use Rattle.session_turn.specs.Turned.{Turned, SessionLends, sidesOf, Plays}
 
 -- a turn that was made: what `run_one` handed back, what was lent beside the ends after it, and the line's buffer
-pub record Made : Type 0 where
+pub record MadeTurn : Type 0 where
   pub turn : Turn
-  pub lends : Lends
+  pub lends : SessionLends
   pub text : Bytes
 
 -- the contract of `run_one`, of a turn at `at`: it goes on within the script, and it is the session's
-abbrev pub GoesOn : Bytes → ℕ → Made → Type 0
-GoesOn script at t = Turned (length script) at (t .turn)
+abbrev pub TurnGoesOn : Bytes → ℕ → MadeTurn → Type 0
+TurnGoesOn script at t = Turned (length script) at (t .turn)
 
-abbrev pub IsTurn : Bytes → ℕ → Ends → Lends → Made → Type 0
+abbrev pub IsTurn : Bytes → ℕ → Ends → SessionLends → MadeTurn → Type 0
 IsTurn script at w d t =
-    at < length script → Laid (w .zero) (d .zero) → Laid (w .one) (d .one) → Plays (turn script at (sidesOf w d)) (t .turn) (t .lends) (t .text)
+    at < length script → LaidEnd (w .zero) (d .zero) → LaidEnd (w .one) (d .one) → Plays (turn script at (sidesOf w d)) (t .turn) (t .lends) (t .text)
 
-pub record Makes (script : Bytes) (at : ℕ) (w : Ends) (d : Lends) (t : Made) : Type 0 where
-  pub turned : GoesOn script at t
+pub record MakesTurn (script : Bytes) (at : ℕ) (w : Ends) (d : SessionLends) (t : MadeTurn) : Type 0 where
+  pub turned : TurnGoesOn script at t
   pub plays : IsTurn script at w d t
 
 -- turns from a place up to the script's end, each on what the last one left
-abbrev pub RunsFrom : Bytes → ℕ → Ends → Lends → List Made → Type 0
+abbrev pub RunsFrom : Bytes → ℕ → Ends → SessionLends → List MadeTurn → Type 0
 RunsFrom script at w d [] = length script ≤ at
 RunsFrom script at w d (t ∷ ts) =
-    (at < length script) × (Makes script at w d t × RunsFrom script (t .turn .next) (t .turn .ends) (t .lends) ts)
+    (at < length script) × (MakesTurn script at w d t × RunsFrom script (t .turn .next) (t .turn .ends) (t .lends) ts)
 
 -- what they put into the line's buffer, one after another
-abbrev pub printedBy : List Made → List ℕ
+abbrev pub printedBy : List MadeTurn → List ℕ
 printedBy [] = []
 printedBy (t ∷ ts) = take (t .turn .len) (t .text) ++ printedBy ts
 
 -- the stores have 01's lengths
-abbrev pub Sized : Stores → Type 0
-Sized b = storesTest (b .outgoing) (b .incoming) (b .headers) ≡ false
+abbrev pub StoreLengths : Stores → Type 0
+StoreLengths b = storesTest (b .outgoing) (b .incoming) (b .headers) ≡ false
 
 -- the contract of `open_ends`, whatever is lent for datagrams to keep: "ends 0 (id 1) and 1 (id 2), opened at clock 0 with ceiling 10"
 pub record OpenedEnds (w : Ends) (b₀ b₁ : Stores) : Type 0 where
   pub zero : Fresh 1 2 b₀ (w .zero)
   pub one : Fresh 2 1 b₁ (w .one)
-  pub sized-zero : Sized b₀
-  pub sized-one : Sized b₁
+  pub sized-zero : StoreLengths b₀
+  pub sized-one : StoreLengths b₁
 
 abbrev pub WholeSession : Type 0
 WholeSession =
-    (input : Bytes) (w : Ends) (d : Lends)
+    (input : Bytes) (w : Ends) (d : SessionLends)
     → OpenedEnds w (d .zero) (d .one)
-    → (ts : List Made)
+    → (ts : List MadeTurn)
     → RunsFrom (take 65_536 input) 0 w d ts
     → printedBy ts ≡ session input

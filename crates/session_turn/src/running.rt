@@ -7,7 +7,7 @@ ghost use Rattle.session_ends.specs.Calls.{stores};
 ghost use Rattle.session_text.specs.Put.{Wrote};
 ghost use Rattle.session_text.specs.Text.{scriptLineOf};
 ghost use Rattle.session_commands.specs.Acting.{hasDatagram};
-ghost use Rattle.session_commands.specs.Acts.{Laid};
+ghost use Rattle.session_commands.specs.Acts.{LaidEnd};
 ghost use Rattle.session_turn.specs.Session.{endOf, isFor, turn};
 ghost use Rattle.session_turn.specs.Turned.{Turned, Parsed, lends, sidesOf, Plays};
 use constants::HEADER_STORE;
@@ -15,15 +15,15 @@ use constants::INCOMING_STORE;
 use constants::OUTGOING_STORE;
 use picks::both;
 use session_commands::SCRATCH;
-use session_ends::End;
+use session_ends::SessionEnd;
 use session_kept::KEPT_STORE;
 use session_kept::Kept;
 use session_script::Command;
 use session_text::LINE;
 
 pub struct Ends {
-    pub zero: End,
-    pub one: End,
+    pub zero: SessionEnd,
+    pub one: SessionEnd,
 }
 
 // The ends after a command, where the next one starts (the script's end where the run ends), and the length of the command's line.
@@ -135,7 +135,7 @@ pub fn run_one(
     line: &mut [u8; LINE],
 ) -> Turn
     ensures { λ r. ⌜ Turned (length (now (script .entry))) at r ⌝ }
-    ensures { λ r. ⌜ (at < length (now (script .entry)) → Laid (ends .zero) (stores (now («outgoing_0» .entry)) (now («incoming_0» .entry)) (now («headers_0» .entry))) → Laid (ends .one) (stores (now («outgoing_1» .entry)) (now («incoming_1» .entry)) (now («headers_1» .entry))) → Plays (turn (now (script .entry)) at (sidesOf ends (lends (now («outgoing_0» .entry)) (now («incoming_0» .entry)) (now («headers_0» .entry)) (now («kept_0» .entry)) (now («outgoing_1» .entry)) (now («incoming_1» .entry)) (now («headers_1» .entry)) (now («kept_1» .entry))))) r (lends (now («outgoing_0» .exit)) (now («incoming_0» .exit)) (now («headers_0» .exit)) (now («kept_0» .exit)) (now («outgoing_1» .exit)) (now («incoming_1» .exit)) (now («headers_1» .exit)) (now («kept_1» .exit))) (now (line .exit))) ⌝ }
+    ensures { λ r. ⌜ (at < length (now (script .entry)) → LaidEnd (ends .zero) (stores (now («outgoing_0» .entry)) (now («incoming_0» .entry)) (now («headers_0» .entry))) → LaidEnd (ends .one) (stores (now («outgoing_1» .entry)) (now («incoming_1» .entry)) (now («headers_1» .entry))) → Plays (turn (now (script .entry)) at (sidesOf ends (lends (now («outgoing_0» .entry)) (now («incoming_0» .entry)) (now («headers_0» .entry)) (now («kept_0» .entry)) (now («outgoing_1» .entry)) (now («incoming_1» .entry)) (now («headers_1» .entry)) (now («kept_1» .entry))))) r (lends (now («outgoing_0» .exit)) (now («incoming_0» .exit)) (now («headers_0» .exit)) (now («kept_0» .exit)) (now («outgoing_1» .exit)) (now («incoming_1» .exit)) (now («headers_1» .exit)) (now («kept_1» .exit))) (now (line .exit))) ⌝ }
 {
     let size = script.len();
     if size <= at {

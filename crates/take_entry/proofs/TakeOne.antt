@@ -26,7 +26,7 @@ use Rattle.records_words.proofs.WordLaws.{sent-back, stored-number, stored-full
 use Rattle.records.proofs.Cut.{out-is, head-is, cut-length, cut-whole}
 use Rattle.records.proofs.SeenOutgoing.{get-outgoing, get-settled, get-unsent, remark-outgoing}
 use Rattle.take_entry.specs.declared.Progress.{Progress}
-use Rattle.take_entry.specs.Transmit.{Within, takenPacket, sendEntry, storeSeen, isThere, Written, EntryKept, TakesState, TakesPacket, TakesEntry}
+use Rattle.take_entry.specs.Transmit.{TransmitBounds, takenPacket, sendEntry, storeSeen, isThere, PutInBuffer, CanTakeEntry, TakesState, TakesPacket, TakesEntry}
 
 -- a part of a store is at most as long as was asked for
 pub part-short : (k : ℕ) (part store : List ℕ) → part ≡ take k store → length part ≤ k
@@ -78,7 +78,7 @@ module _ (s : Sender) (sent : List ℕ) (outgoing : Bytes) (n : ℕ) where
     there-stored = and-right (ltb n (s .seq)) (isStored (sentIn sent (n % ceiling)) n) rest
 
     -- the words after its mark are the store in which it is marked
-    pub mark-there : (clock : ℕ) → length sent ≡ 64 → Within (sentIn sent (n % ceiling)) 30 → n < 2 ^ 32 → clock < 2 ^ 60
+    pub mark-there : (clock : ℕ) → length sent ≡ 64 → TransmitBounds (sentIn sent (n % ceiling)) 30 → n < 2 ^ 32 → clock < 2 ^ 60
         → storeSeen s (withSent sent n (takenPacket (sentIn sent (n % ceiling)) clock)) outgoing ≡ insert (storeSeen s sent outgoing) n (marked (takenMarks clock) slotSeen)
     mark-there clock long within fits early =
         let p = sentIn sent (n % ceiling) in
@@ -100,14 +100,14 @@ put-none buf at =
     let e : at ≡ at + 0 = omega arith in
     sym (take-append-drop at buf) ∙ ap (λ (k : ℕ). take at buf ++ drop k buf) e
 
-pub written-none : (at : ℕ) (buf : Bytes) (store : Slots model.Packet) → Written (record { datagrams = []; outgoing = store }) at buf at buf store
+pub written-none : (at : ℕ) (buf : Bytes) (store : Slots model.Packet) → PutInBuffer (record { datagrams = []; outgoing = store }) at buf at buf store
 written-none at buf store = record { bytes = put-none buf at; count = let e : at ≡ at + 0 = omega arith in e; marks = refl }
 
 written-one : (at : ℕ) (buf : Bytes) (end : ℕ) (buf′ d : Bytes) (store : Slots model.Packet) → buf′ ≡ put buf at d → end ≡ at + length d
-    → Written (record { datagrams = d ∷ []; outgoing = store }) at buf end buf′ store
+    → PutInBuffer (record { datagrams = d ∷ []; outgoing = store }) at buf end buf′ store
 written-one at buf end buf′ d store e l = record { bytes = e ∙ ap (put buf at) (sym (append-nil d)); count = l ∙ ap (λ (b : Bytes). at + length b) (sym (append-nil d)); marks = refl }
 
-module _ (s : Sender) (x : Entry) (clock : ℕ) (p : Progress) (sent : List ℕ) (outgoing headers buf : Bytes) (kept : EntryKept s x clock p sent outgoing headers buf) where
+module _ (s : Sender) (x : Entry) (clock : ℕ) (p : Progress) (sent : List ℕ) (outgoing headers buf : Bytes) (kept : CanTakeEntry s x clock p sent outgoing headers buf) where
   pub takes-state : x .state ≡ true → (r : Progress) (buf′ : Bytes) → TakesState p headers buf r buf′ → TakesEntry s x clock p sent outgoing headers buf r sent buf′
   unfolding sendEntry
   takes-state e r buf′ t =

@@ -21,7 +21,7 @@ use Rattle.take_entry.specs.declared.Progress.{Progress}
 use Rattle.take_batch.specs.Batch.{entrySeen}
 
 -- 01, 'Rules of the records': "lengths are 21 to 1,400 stored"; "transmits are at most 7"
-pub record Within (p : Sent) (transmits : ℕ) : Type 0 where
+pub record TransmitBounds (p : Sent) (transmits : ℕ) : Type 0 where
   pub short : p .length ≤ 1_400
   pub few : p .transmits ≤ transmits
 
@@ -44,11 +44,11 @@ pub record TakesPacket (p : Progress) (x : Sent) (clock : ℕ) (sent : List ℕ)
   pub place : r .place ≡ p .place
 
 -- the model's takeEntry on the outgoing store alone: the datagrams of some entries, and the store after them
-pub record Sends : Type 0 where
+pub record TakenFromStore : Type 0 where
   pub datagrams : List Bytes
   pub outgoing : Slots model.Packet
 
-unfoldable pub sendEntry : (clock : ℕ) → model.Entry → Slots model.Packet → Sends
+unfoldable pub sendEntry : (clock : ℕ) → model.Entry → Slots model.Packet → TakenFromStore
 sendEntry clock (model.state b) s = record { datagrams = b ∷ []; outgoing = s }
 sendEntry clock (model.packet n l) s =
     on (get s n) (record { datagrams = []; outgoing = s })
@@ -59,7 +59,7 @@ abbrev pub storeSeen : Sender → List ℕ → Bytes → Slots model.Packet
 storeSeen s sent outgoing = seenOutgoing (s .«remote_acked») (s .seq) sent outgoing
 
 -- the datagrams stand one after another in the buffer from `at` to `end`, the bytes past them stay, and the packets are marked
-pub record Written (t : Sends) (at : ℕ) (buf : Bytes) (end : ℕ) (buf′ : Bytes) (marked : Slots model.Packet) : Type 0 where
+pub record PutInBuffer (t : TakenFromStore) (at : ℕ) (buf : Bytes) (end : ℕ) (buf′ : Bytes) (marked : Slots model.Packet) : Type 0 where
   pub bytes : buf′ ≡ put buf at (joined (t .datagrams))
   pub count : end ≡ at + length (joined (t .datagrams))
   pub marks : marked ≡ t .outgoing
@@ -69,9 +69,9 @@ abbrev pub isThere : Sender → List ℕ → ℕ → Bool
 isThere s sent n = leb (s .«remote_acked») n && (ltb n (s .seq) && isStored (sentIn sent (n % ceiling)) n)
 
 -- what taking one entry needs: its packet keeps the rules but for the marks of this take, and its bytes have room
-pub record EntryKept (s : Sender) (x : Entry) (clock : ℕ) (p : Progress) (sent : List ℕ) (outgoing headers buf : Bytes) : Type 0 where
+pub record CanTakeEntry (s : Sender) (x : Entry) (clock : ℕ) (p : Progress) (sent : List ℕ) (outgoing headers buf : Bytes) : Type 0 where
   pub words : length sent ≡ 64
-  pub packet : isThere s sent (x .number) ≡ true → Within (sentIn sent (x .number % ceiling)) 30
+  pub packet : isThere s sent (x .number) ≡ true → TransmitBounds (sentIn sent (x .number % ceiling)) 30
   pub drive : clock < 2 ^ 60
   pub slots : length outgoing ≡ 44_800
   pub places : length headers ≡ 1_280
@@ -81,7 +81,7 @@ pub record EntryKept (s : Sender) (x : Entry) (clock : ℕ) (p : Progress) (sent
 -- one entry is taken; "An entry whose packet has left the store counts but writes nothing"
 pub record TakesEntry (s : Sender) (x : Entry) (clock : ℕ) (p : Progress) (sent : List ℕ) (outgoing headers buf : Bytes) (r : Progress)
     (sent′ : List ℕ) (buf′ : Bytes) : Type 0 where
-  pub written : Written (sendEntry clock (entrySeen headers (p .place) x) (storeSeen s sent outgoing)) (p .at) buf (r .at) buf′ (storeSeen s sent′ outgoing)
+  pub written : PutInBuffer (sendEntry clock (entrySeen headers (p .place) x) (storeSeen s sent outgoing)) (p .at) buf (r .at) buf′ (storeSeen s sent′ outgoing)
   pub place : r .place ≡ p .place + cond (x .state) 1 0
   pub short : r .at ≤ p .at + 1_400
   pub words : length sent′ ≡ length sent

@@ -5,7 +5,7 @@ ghost use Prim.Native.Nat.{_+_, _<_, _≤_};
 ghost use lib.Dec.{leb, ltb};
 ghost use lib.ListN.{length};
 ghost use Rattle.records_words.specs.Words.{isStored};
-ghost use Rattle.take_entry.specs.Transmit.{takenPacket, Within, TakesState, TakesPacket, EntryKept, TakesEntry};
+ghost use Rattle.take_entry.specs.Transmit.{takenPacket, TransmitBounds, TakesState, TakesPacket, CanTakeEntry, TakesEntry};
 use constants::UDX_HEADER_SIZE;
 use records::Entry;
 use records::Sender;
@@ -69,7 +69,7 @@ fn take_packet(
     outgoing: &[u8],
     buf: &mut [u8],
 ) -> Progress
-    requires { ⌜ (length (now outgoing) ≡ 44_800) × Within packet 30 × (p .at + 1_400 ≤ length (now buf)) ⌝ }
+    requires { ⌜ (length (now outgoing) ≡ 44_800) × TransmitBounds packet 30 × (p .at + 1_400 ≤ length (now buf)) ⌝ }
     ensures { λ r. ⌜ TakesPacket p packet (drive .0) (now (sent .entry)) (now (outgoing .entry)) (now (buf .entry)) r (now (sent .exit)) (now (buf .exit)) ⌝ }
 {
     let end = p.at + packet.length as usize;
@@ -94,7 +94,7 @@ pub fn transmit(
     headers: &[u8],
     buf: &mut [u8],
 ) -> Progress
-    requires { ⌜ EntryKept s x (drive .0) p (now sent) (now outgoing) (now headers) (now buf) ⌝ }
+    requires { ⌜ CanTakeEntry s x (drive .0) p (now sent) (now outgoing) (now headers) (now buf) ⌝ }
     ensures { λ r. ⌜ TakesEntry s x (drive .0) p (now (sent .entry)) (now (outgoing .entry)) (now (headers .entry)) (now (buf .entry)) r (now (sent .exit)) (now (buf .exit)) ⌝ }
 {
     if x.state {

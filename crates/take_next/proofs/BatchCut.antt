@@ -81,27 +81,27 @@ taken-there k e l =
 -- their lengths
 
 -- what the rules say of an entry
-abbrev Sized : Slots Packet → Entry → Type 0
-Sized s (state b) = length b ≡ 20
-Sized s (packet n l) = (21 ≤ l) × ((p : Packet) → get s n ≡ some p → length (p .bytes) ≡ l)
+abbrev EntrySized : Slots Packet → Entry → Type 0
+EntrySized s (state b) = length b ≡ 20
+EntrySized s (packet n l) = (21 ≤ l) × ((p : Packet) → get s n ≡ some p → length (p .bytes) ≡ l)
 
-sized-test : (s : Slots Packet) (x : Entry) → entryTest s x ≡ true → Sized s x
+sized-test : (s : Slots Packet) (x : Entry) → entryTest s x ≡ true → EntrySized s x
 sized-test s (state b) e = eqb-true (length b) 20 e
 sized-test s (packet n l) e = (leb-true 21 l (and-left (leb 21 l) (leb l 1_400 && on (get s n) true (λ p. eqb l (length (p .bytes)))) e), λ p z. sym (eqb-true l (length (p .bytes)) (rw z at rest)))
   where
     rest : on (get s n) true (λ p. eqb l (length (p .bytes))) ≡ true
     rest = and-right (leb l 1_400) (on (get s n) true (λ p. eqb l (length (p .bytes)))) (and-right (leb 21 l) (leb l 1_400 && on (get s n) true (λ p. eqb l (length (p .bytes)))) e)
 
-all-sized : (s : Slots Packet) (q : List Entry) → every (entryTest s) q ≡ true → All (Sized s) q
+all-sized : (s : Slots Packet) (q : List Entry) → every (entryTest s) q ≡ true → All (EntrySized s) q
 all-sized s [] e = tt
 all-sized s (x ∷ q) e = (sized-test s x (and-left (entryTest s x) (every (entryTest s) q) e), all-sized s q (and-right (entryTest s x) (every (entryTest s) q) e))
 
-filled : (s : Slots Packet) (x : Entry) → Sized s x → 0 < entryLength x
+filled : (s : Slots Packet) (x : Entry) → EntrySized s x → 0 < entryLength x
 filled s (state b) h = omega arith
 filled s (packet n l) h = let a = h .0 in omega arith
 
 -- one entry's datagram, where it is there, has its length
-one-length : (s : Slots Packet) (l : ℕ) (x : Entry) (q : List Entry) → Sized s x → entryLength x ≡ l → All (λ d. length d ≡ l) (thereOf s q) → All (λ d. length d ≡ l) (thereOf s (x ∷ q))
+one-length : (s : Slots Packet) (l : ℕ) (x : Entry) (q : List Entry) → EntrySized s x → entryLength x ≡ l → All (λ d. length d ≡ l) (thereOf s q) → All (λ d. length d ≡ l) (thereOf s (x ∷ q))
 one-length s l (state b) q h e a = (e, a)
 one-length s l (packet n m) q h e a = go (get s n) refl
   where
@@ -109,7 +109,7 @@ one-length s l (packet n m) q h e a = go (get s n) refl
     go none z = a
     go (some p) z = (h .1 p z ∙ e, a)
 
-there-lengths : (s : Slots Packet) (m l : ℕ) (q : List Entry) → All (Sized s) q → All (λ d. length d ≡ l) (thereOf s (take (sameLength m l q) q))
+there-lengths : (s : Slots Packet) (m l : ℕ) (q : List Entry) → All (EntrySized s) q → All (λ d. length d ≡ l) (thereOf s (take (sameLength m l q) q))
 unfolding sameLength
 there-lengths s zero l q a = tt
 there-lengths s (suc m) l [] a = tt
@@ -132,7 +132,7 @@ there-count s (suc k) (packet n l ∷ q) = go (get s n) (there-count s k q)
     go (some p) a = omega arith
 
 -- cutting gives them back
-pieces : (s : Slots Packet) (m : ℕ) (q : List Entry) → All (Sized s) q
+pieces : (s : Slots Packet) (m : ℕ) (q : List Entry) → All (EntrySized s) q
     → let k = sameLength m (headLength q) q in datagramsOf (segmentOf k (headLength q)) (joined (thereOf s (take k q))) ≡ thereOf s (take k q)
 unfolding sameLength
 pieces s zero [] a = refl

@@ -24,7 +24,7 @@ use Rattle.records.specs.Seen.{seenEntries, seenQueue, entryWords, seen, stateW
 use Rattle.records.proofs.SeenQueue.{left-length, entries-length}
 use Rattle.take_next.specs.declared.Next.{Next}
 use Rattle.take_entry.specs.Transmit.{storeSeen, isThere}
-use Rattle.take_next.specs.Take.{Stored, Kept, nextSeen, nextBytes, Finds, Shows}
+use Rattle.take_next.specs.Take.{AllTransmitBounds, TakeRules, nextSeen, nextBytes, Finds, ShowsNext}
 use Rattle.take_batch.proofs.LeftWords.{entry-at, states-next, states-less}
 use Rattle.take_entry.proofs.TakeOne.{state-bytes, packet-bytes, get-there, there-low, there-high, there-stored}
 
@@ -38,13 +38,13 @@ module _ (q : Queue) (s : Sender) (sent queue : List ℕ) where
 
   pub record Searching (i : ℕ) : Type 0 where
     pub formed : QueueFormed q queue
-    pub stored : Stored s sent 7
+    pub stored : AllTransmitBounds s sent 7
     pub long : length queue ≡ 128
     pub turns : i ≤ q .left
     pub passed : (outgoing headers : Bytes) → firstThere (storeSeen s sent outgoing) (drop i (entries headers)) ≡ firstThere (storeSeen s sent outgoing) (entries headers)
     pub states : stateWords (take i (entryWords q queue)) ≡ 0
 
-  pub starts : QueueFormed q queue → Stored s sent 7 → length queue ≡ 128 → Searching 0
+  pub starts : QueueFormed q queue → AllTransmitBounds s sent 7 → length queue ≡ 128 → Searching 0
   starts f w l = record { formed = f; stored = w; long = l; turns = omega arith; passed = λ outgoing headers. refl; states = refl }
 
   -- entries are left to take
@@ -141,8 +141,8 @@ module _ (q : Queue) (s : Sender) (sent queue : List ℕ) where
 
 -- the part that is shown
 
-module _ (q : Queue) (s : Sender) (sent queue : List ℕ) (outgoing headers : Bytes) (kept : Kept q s sent queue outgoing headers) (x : Next) (f : Finds q s sent queue x) where
-  shown-is : (part : Bytes) → part ≡ nextBytes outgoing headers x → Shows q s sent queue outgoing headers part
+module _ (q : Queue) (s : Sender) (sent queue : List ℕ) (outgoing headers : Bytes) (kept : TakeRules q s sent queue outgoing headers) (x : Next) (f : Finds q s sent queue x) where
+  shown-is : (part : Bytes) → part ≡ nextBytes outgoing headers x → ShowsNext q s sent queue outgoing headers part
   unfolding look seen seenQueue
   shown-is part e =
       let z = e ∙ f .shown outgoing headers in
@@ -151,8 +151,8 @@ module _ (q : Queue) (s : Sender) (sent queue : List ℕ) (outgoing headers : By
         look = λ st t l le r. z ∙ rw (r, le .counts, le .sender, le .packets, le .words, le .store, le .heads) refl;
       }
 
-  pub shows-state : x .state ≡ true → (part : Bytes) → part ≡ take 20 (drop (x .number * 20) headers) → Shows q s sent queue outgoing headers part
+  pub shows-state : x .state ≡ true → (part : Bytes) → part ≡ take 20 (drop (x .number * 20) headers) → ShowsNext q s sent queue outgoing headers part
   shows-state t part e = shown-is part (e ∙ state-bytes headers (x .number) (kept .places) (f .place t) ∙ rw t refl)
 
-  pub shows-packet : x .state ≡ false → (part : Bytes) → part ≡ take (x .length) (drop (x .number % 32 * 1_400) outgoing) → Shows q s sent queue outgoing headers part
+  pub shows-packet : x .state ≡ false → (part : Bytes) → part ≡ take (x .length) (drop (x .number % 32 * 1_400) outgoing) → ShowsNext q s sent queue outgoing headers part
   shows-packet t part e = shown-is part (e ∙ packet-bytes outgoing (x .number % 32) (x .length) (kept .slots) (omega arith) (f .short) ∙ rw t refl)

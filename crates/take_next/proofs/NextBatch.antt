@@ -11,11 +11,11 @@ use Rattle.records.specs.Seen.{seen}
 use Rattle.take_next.specs.declared.Handed.{Handed}
 use Rattle.take_entry.specs.declared.Progress.{Progress}
 use Rattle.take_batch.specs.Batch.{Batched, Heads}
-use Rattle.take_next.specs.Take.{takenStream, takenLent, Takeable, Took, Takes, TakesQueue, Sendable, segmentSize, HandsOut}
+use Rattle.take_next.specs.Take.{takenStream, takenLent, CanTake, Took, Takes, TakesQueue, Sendable, segmentSize, HandsOut}
 
 module _ (q : Queue) (s : Sender) (segments clock : ℕ) (sent queue : List ℕ) (outgoing headers buf : Bytes)
     (ready : Sendable q s segments clock sent queue outgoing headers buf) (k : ℕ) (b : Batched q segments queue k) where
-  pub takeable : Takeable q s k clock sent queue outgoing headers buf
+  pub takeable : CanTake q s k clock sent queue outgoing headers buf
   takeable =
       let m = b .most in
       let n = ready .most in

@@ -1,5 +1,5 @@
 -- What the functions of this crate need is what 01's rules give: records whose end keeps the rules, laid out as they should be, with
--- stores of the right lengths, are `Kept`, and with an entry left to take
+-- stores of the right lengths, are `TakeRules`, and with an entry left to take
 -- the next batch can be taken where the buffer has 14,000 bytes. Assumes nothing.
 use Prim.Native.Nat.{ℕ, zero, suc, _%_, _^_, _≤_, _<_}
 use native.Mathlib.Omega.{arith}
@@ -23,7 +23,7 @@ use Rattle.records_words.specs.Words.{sentIn}
 use Rattle.records.specs.Seen.{packetOf, Lent, seen, QueueFormed}
 use Rattle.records.proofs.Cut.{cut-length}
 use Rattle.records.proofs.SeenOutgoing.{get-outgoing}
-use Rattle.take_next.specs.Take.{Lends, Stored, Kept, Sendable}
+use Rattle.take_next.specs.Take.{Lends, AllTransmitBounds, TakeRules, Sendable}
 
 -- a stream has its own numbers and words
 pub own-lends : (st : Stream) (l : Lent) → Lends st l (st .queue) (st .sender) (l .sent) (l .queue) (l .outgoing) (l .headers)
@@ -76,7 +76,7 @@ rule-within remoteAcked seq clock slot number size transmits sent h =
     (leb-true size 1_400 (and-left (leb size 1_400) _ h₄), leb-true transmits 7 (and-left (leb transmits 7) _ h₅))
 
 module _ (st : Stream) (t : Totals) (l : Lent) (kept : rules (seen st t l) ≡ true) where
-  stored : Stored (st .sender) (l .sent) 7
+  stored : AllTransmitBounds (st .sender) (l .sent) 7
   unfolding seen
   stored n low high is =
       let q = sentIn (l .sent) (n % ceiling) in
@@ -88,7 +88,7 @@ module _ (st : Stream) (t : Totals) (l : Lent) (kept : rules (seen st t l) ≡ t
       record { short = rw cut-length at (w .0); few = w .1 }
 
   module _ (formed : QueueFormed (st .queue) (l .queue)) (slots : length (l .outgoing) ≡ 44_800) (places : length (l .headers) ≡ 1_280) where
-    pub rules-kept : Kept (st .queue) (st .sender) (l .sent) (l .queue) (l .outgoing) (l .headers)
+    pub rules-kept : TakeRules (st .queue) (st .sender) (l .sent) (l .queue) (l .outgoing) (l .headers)
     rules-kept = record { formed = formed; stored = stored; slots = slots; places = places }
 
     pub rules-take : (buf : Bytes) → 0 < st .queue .left → 14_000 ≤ length buf

@@ -23,7 +23,7 @@ use Rattle.records.specs.Seen.{seenOutgoing, seenQueue, entryWords, Lent, seen,
 use Rattle.records.proofs.SeenQueue.{queue-take, queue-last}
 use Rattle.records.proofs.FormedQueue.{formed-take, formed-empty}
 use Rattle.take_entry.specs.declared.Progress.{Progress}
-use Rattle.take_entry.specs.Transmit.{Sends, sendEntry, storeSeen, Written}
+use Rattle.take_entry.specs.Transmit.{TakenFromStore, sendEntry, storeSeen, PutInBuffer}
 use Rattle.take_next.specs.Take.{Lends, sendLoop, takenQueue, takenStream, takenLent, Took, Takes, TakesQueue}
 use Rattle.take_next.proofs.TakeSome.{sentEntry, Going}
 
@@ -34,7 +34,7 @@ withOutgoing o e =
     (record { seq = e .sender .seq; remoteAcked = e .sender .remoteAcked; largestAck = e .sender .largestAck; inflight = e .sender .inflight; cwnd = e .sender .cwnd; outgoing = o })
     e
 
-abbrev takenWith : List model.Entry → Sends → model.End → Taken
+abbrev takenWith : List model.Entry → TakenFromStore → model.End → Taken
 takenWith q r e = record { datagrams = r .datagrams; end = withEntries q (withOutgoing (r .outgoing) e) }
 
 -- an entry of a packet that is there or has left
@@ -100,12 +100,12 @@ takes-more q k place ne =
 -- the end after it
 
 module _ (q : Queue) (s : Sender) (k clock : ℕ) (sent queue : List ℕ) (outgoing headers buf : Bytes) (p : Progress) (sent′ : List ℕ) (buf′ : Bytes) where
-  abbrev sends : Sends
+  abbrev sends : TakenFromStore
   sends = sendLoop clock k (seenQueue q queue headers .entries) (storeSeen s sent outgoing)
 
   -- the queue and the store alone differ
   took : (st : Stream) (t : Totals) (l : Lent) → Lends st l q s sent queue outgoing headers → st .clocks .drive .0 ≡ clock
-      → Written sends 0 buf (p .at) buf′ (storeSeen s sent′ outgoing)
+      → PutInBuffer sends 0 buf (p .at) buf′ (storeSeen s sent′ outgoing)
       → seenQueue (takenQueue q k (p .place)) queue headers ≡ record { entries = drop k (seenQueue q queue headers .entries); left = q .left - k }
       → Took k (seen st t l) (seen (takenStream (takenQueue q k (p .place)) st) t (takenLent sent′ l)) buf (p .at) buf′
   unfolding seen seenQueue
@@ -126,7 +126,7 @@ module _ (q : Queue) (s : Sender) (k clock : ℕ) (sent queue : List ℕ) (outgo
       same = rw (d, e .counts, e .sender, e .packets, e .words, e .store, e .heads) refl
 
       all : takeLoop k (seen st t l .queue .entries) (seen st t l) ≡ takenWith (drop k (seen st t l .queue .entries)) sends (seen st t l)
-      all = loop-sends k (seen st t l .queue .entries) (seen st t l) ∙ ap (λ (r : Sends). takenWith (drop k (seen st t l .queue .entries)) r (seen st t l)) same
+      all = loop-sends k (seen st t l .queue .entries) (seen st t l) ∙ ap (λ (r : TakenFromStore). takenWith (drop k (seen st t l .queue .entries)) r (seen st t l)) same
 
       lefts : seenQueue (takenQueue q k (p .place)) (l .queue) (l .headers) ≡ record { entries = drop k (seenQueue (st .queue) (l .queue) (l .headers) .entries); left = st .queue .left - k }
       lefts = rw (e .counts, e .words, e .heads) c

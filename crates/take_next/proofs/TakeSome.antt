@@ -29,14 +29,14 @@ use Rattle.records.proofs.SeenOutgoing.{outgoing-length}
 use Rattle.records.proofs.SeenQueue.{left-length}
 use Rattle.take_entry.specs.declared.Progress.{Progress}
 use Rattle.take_batch.specs.Batch.{entrySeen}
-use Rattle.take_entry.specs.Transmit.{Sends, sendEntry, storeSeen, isThere, Written, EntryKept, TakesEntry}
-use Rattle.take_next.specs.Take.{Stored, sendLoop, Takeable}
+use Rattle.take_entry.specs.Transmit.{TakenFromStore, sendEntry, storeSeen, isThere, PutInBuffer, CanTakeEntry, TakesEntry}
+use Rattle.take_next.specs.Take.{AllTransmitBounds, sendLoop, CanTake}
 use Rattle.take_batch.proofs.LeftWords.{entry-at, states-next, states-less}
 use Rattle.take_entry.proofs.TakeOne.{slotSeen, get-there, there-low, there-high, there-stored, written-none}
 
 -- one entry more
 
-abbrev then : Sends → Sends → Sends
+abbrev then : TakenFromStore → TakenFromStore → TakenFromStore
 then r t = record { datagrams = r .datagrams ++ t .datagrams; outgoing = t .outgoing }
 
 send-next : (clock i : ℕ) (q : List model.Entry) (x : model.Entry) (rest : List model.Entry) (s : Slots model.Packet) → drop i q ≡ x ∷ rest
@@ -51,12 +51,12 @@ send-next clock (suc i) (y ∷ q) x rest s e =
     let t = sendEntry clock y s in
     let r = sendLoop clock i q (t .outgoing) in
     let u = sendEntry clock x (r .outgoing) in
-    ap (λ (z : Sends). then t z) (send-next clock i q x rest (t .outgoing) e)
+    ap (λ (z : TakenFromStore). then t z) (send-next clock i q x rest (t .outgoing) e)
     ∙ ap (λ (d : List Bytes). record { datagrams = d; outgoing = u .outgoing }) (sym (append-assoc (t .datagrams) (r .datagrams) (u .datagrams)))
 
 -- the next datagram is put behind the others
-written-then : (r t : Sends) (buf₀ : Bytes) (at : ℕ) (buf : Bytes) (end : ℕ) (buf′ : Bytes) (store store′ : Slots model.Packet)
-    → Written r 0 buf₀ at buf store → Written t at buf end buf′ store′ → end ≤ length buf₀ → Written (then r t) 0 buf₀ end buf′ store′
+written-then : (r t : TakenFromStore) (buf₀ : Bytes) (at : ℕ) (buf : Bytes) (end : ℕ) (buf′ : Bytes) (store store′ : Slots model.Packet)
+    → PutInBuffer r 0 buf₀ at buf store → PutInBuffer t at buf end buf′ store′ → end ≤ length buf₀ → PutInBuffer (then r t) 0 buf₀ end buf′ store′
 written-then r t buf₀ at buf end buf′ store store′ w v h =
     let a = w .count in
     let b = v .count in
@@ -76,7 +76,7 @@ written-then r t buf₀ at buf end buf′ store store′ w v h =
 abbrev pub StoreWithin : Slots model.Packet → ℕ → Type 0
 StoreWithin s m = (n : ℕ) (p : model.Packet) → get s n ≡ some p → (length (p .bytes) ≤ 1_400) × (p .marks .transmits ≤ m)
 
-within-start : (s : Sender) (sent : List ℕ) (outgoing : Bytes) (m : ℕ) → Stored s sent m → StoreWithin (storeSeen s sent outgoing) m
+within-start : (s : Sender) (sent : List ℕ) (outgoing : Bytes) (m : ℕ) → AllTransmitBounds s sent m → StoreWithin (storeSeen s sent outgoing) m
 within-start s sent outgoing m h n p e = go (isThere s sent n) refl (sym (get-there s sent outgoing n) ∙ e)
   where
     go : (b : Bool) → isThere s sent n ≡ b → cond b (some (slotSeen s sent outgoing n)) none ≡ some p → (length (p .bytes) ≤ 1_400) × (p .marks .transmits ≤ m)
@@ -89,7 +89,7 @@ within-more : (s : Slots model.Packet) (m : ℕ) → StoreWithin s m → StoreWi
 within-more s m h n p e = let w = h n p e in let a = w .0 in let b = w .1 in (a, omega arith)
 
 -- an entry of a packet that is there or has left
-abbrev pub sentEntry : ℕ → ℕ → Slots model.Packet → Option model.Packet → Sends
+abbrev pub sentEntry : ℕ → ℕ → Slots model.Packet → Option model.Packet → TakenFromStore
 sentEntry clock n s o = on o (record { datagrams = []; outgoing = s }) (λ p. record { datagrams = p .bytes ∷ []; outgoing = insert s n (marked (takenMarks clock) p) })
 
 within-next : (clock m : ℕ) (x : model.Entry) (s : Slots model.Packet) → length s ≡ ceiling → StoreWithin s m → StoreWithin (sendEntry clock x s .outgoing) (suc m)
@@ -111,10 +111,10 @@ within-next clock m (model.packet n k) s l h = go (get s n) refl
 
 pub record Going (q : Queue) (s : Sender) (k clock : ℕ) (sent₀ queue : List ℕ) (outgoing headers buf₀ : Bytes) (sent : List ℕ) (buf : Bytes)
     (p : Progress) (i : ℕ) : Type 0 where
-  pub ready : Takeable q s k clock sent₀ queue outgoing headers buf₀
+  pub ready : CanTake q s k clock sent₀ queue outgoing headers buf₀
   pub long : length queue ≡ 128
   pub turns : i ≤ k
-  pub written : Written (sendLoop clock i (seenEntries headers (q .gone) (entryWords q queue)) (storeSeen s sent₀ outgoing)) 0 buf₀ (p .at) buf (storeSeen s sent outgoing)
+  pub written : PutInBuffer (sendLoop clock i (seenEntries headers (q .gone) (entryWords q queue)) (storeSeen s sent₀ outgoing)) 0 buf₀ (p .at) buf (storeSeen s sent outgoing)
   pub place : p .place ≡ q .gone + stateWords (take i (entryWords q queue))
   pub short : p .at ≤ 1_400 * i
   pub within : StoreWithin (storeSeen s sent outgoing) (7 + i)
@@ -122,7 +122,7 @@ pub record Going (q : Queue) (s : Sender) (k clock : ℕ) (sent₀ queue : List 
   pub sized : length buf ≡ length buf₀
 
 module _ (q : Queue) (s : Sender) (k clock : ℕ) (sent₀ queue : List ℕ) (outgoing headers buf₀ : Bytes) where
-  pub starts : Takeable q s k clock sent₀ queue outgoing headers buf₀ → length queue ≡ 128 → length sent₀ ≡ 64
+  pub starts : CanTake q s k clock sent₀ queue outgoing headers buf₀ → length queue ≡ 128 → length sent₀ ≡ 64
       → Going q s k clock sent₀ queue outgoing headers buf₀ sent₀ buf₀ (record { at = 0; place = q .gone }) 0
   unfolding sendLoop
   starts ready long words =
@@ -151,7 +151,7 @@ module _ (q : Queue) (s : Sender) (k clock : ℕ) (sent₀ queue : List ℕ) (ou
         let b = g .long in
         omega (arith, left-length q queue (r .some) (f .left) (omega arith), r .entries)
 
-    pub next-kept : EntryKept s next clock p sent outgoing headers buf
+    pub next-kept : CanTakeEntry s next clock p sent outgoing headers buf
     next-kept =
         let r = g .ready in
         let f = r .kept .formed in

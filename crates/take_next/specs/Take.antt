@@ -23,7 +23,7 @@ use Rattle.records.specs.Seen.{seenQueue, entryWords, Lent, seen, stateWords, Q
 use Rattle.take_next.specs.declared.Handed.{Handed}
 use Rattle.take_entry.specs.declared.Progress.{Progress}
 use Rattle.take_next.specs.declared.Next.{Next}
-use Rattle.take_entry.specs.Transmit.{Within, Sends, sendEntry, storeSeen}
+use Rattle.take_entry.specs.Transmit.{TransmitBounds, TakenFromStore, sendEntry, storeSeen}
 
 -- the records that a function is given
 
@@ -37,21 +37,21 @@ pub record Lends (st : Stream) (l : Lent) (q : Queue) (s : Sender) (sent queue :
   pub heads : l .headers ≡ headers
 
 -- every stored packet is within these bounds, from remote acked to below seq
-abbrev pub Stored : Sender → List ℕ → ℕ → Type 0
-Stored s sent transmits =
-    (n : ℕ) → s .«remote_acked» ≤ n → n < s .seq → isStored (sentIn sent (n % ceiling)) n ≡ true → Within (sentIn sent (n % ceiling)) transmits
+abbrev pub AllTransmitBounds : Sender → List ℕ → ℕ → Type 0
+AllTransmitBounds s sent transmits =
+    (n : ℕ) → s .«remote_acked» ≤ n → n < s .seq → isStored (sentIn sent (n % ceiling)) n ≡ true → TransmitBounds (sentIn sent (n % ceiling)) transmits
 
 -- the records keep the rules as far as they are read here; 01: "32 slots of 1,400 bytes", "64 queued state packets of 20 bytes"
-pub record Kept (q : Queue) (s : Sender) (sent queue : List ℕ) (outgoing headers : Bytes) : Type 0 where
+pub record TakeRules (q : Queue) (s : Sender) (sent queue : List ℕ) (outgoing headers : Bytes) : Type 0 where
   pub formed : QueueFormed q queue
-  pub stored : Stored s sent 7
+  pub stored : AllTransmitBounds s sent 7
   pub slots : length outgoing ≡ 44_800
   pub places : length headers ≡ 1_280
 
 -- to_transmit
 
 -- the model's takeLoop on the outgoing store alone
-unfoldable pub sendLoop : (clock count : ℕ) → List model.Entry → Slots model.Packet → Sends
+unfoldable pub sendLoop : (clock count : ℕ) → List model.Entry → Slots model.Packet → TakenFromStore
 sendLoop clock zero q s = record { datagrams = []; outgoing = s }
 sendLoop clock (suc k) [] s = record { datagrams = []; outgoing = s }
 sendLoop clock (suc k) (x ∷ q) s =
@@ -83,8 +83,8 @@ abbrev pub takenLent : List ℕ → Lent → Lent
 takenLent sent l = record { sent = sent; held = l .held; queue = l .queue; outgoing = l .outgoing; incoming = l .incoming; headers = l .headers }
 
 -- what a take of k entries needs: 01's rules, refusal 2 and that they are left to take
-pub record Takeable (q : Queue) (s : Sender) (k clock : ℕ) (sent queue : List ℕ) (outgoing headers buf : Bytes) : Type 0 where
-  pub kept : Kept q s sent queue outgoing headers
+pub record CanTake (q : Queue) (s : Sender) (k clock : ℕ) (sent queue : List ℕ) (outgoing headers buf : Bytes) : Type 0 where
+  pub kept : TakeRules q s sent queue outgoing headers
   pub some : 1 ≤ q .left
   pub entries : k ≤ q .left
   pub most : k ≤ 10
@@ -114,7 +114,7 @@ pub record TakesQueue (q : Queue) (k place : ℕ) (r : Queue) : Type 0 where
 
 -- what taking the next batch needs: 01's rules, refusal 2 and an entry left to take
 pub record Sendable (q : Queue) (s : Sender) (segments clock : ℕ) (sent queue : List ℕ) (outgoing headers buf : Bytes) : Type 0 where
-  pub kept : Kept q s sent queue outgoing headers
+  pub kept : TakeRules q s sent queue outgoing headers
   pub some : 1 ≤ q .left
   pub most : segments ≤ 10
   pub drive : clock < 2 ^ 60
@@ -153,6 +153,6 @@ pub record Finds (q : Queue) (s : Sender) (sent queue : List ℕ) (r : Next) : T
   pub place : r .state ≡ true → r .number < 64
   pub short : r .length ≤ 1_400
 
-pub record Shows (q : Queue) (s : Sender) (sent queue : List ℕ) (outgoing headers shown : Bytes) : Type 0 where
+pub record ShowsNext (q : Queue) (s : Sender) (sent queue : List ℕ) (outgoing headers shown : Bytes) : Type 0 where
   pub next : shown ≡ nextSeen q s sent queue outgoing headers
   pub look : (st : Stream) (t : Totals) (l : Lent) → Lends st l q s sent queue outgoing headers → rules (seen st t l) ≡ true → shown ≡ look (seen st t l)

@@ -4,7 +4,7 @@ ghost use mathlib.Core.Path.{_≡_};
 ghost use Prim.Native.Nat.{_≤_};
 ghost use lib.ListN.{length};
 ghost use Rattle.records.specs.Seen.{QueueFormed};
-ghost use Rattle.take_next.specs.Take.{Stored, Kept, Takeable, Takes, TakesQueue, segmentSize, Sendable, HandsOut, Finds, Shows};
+ghost use Rattle.take_next.specs.Take.{AllTransmitBounds, TakeRules, CanTake, Takes, TakesQueue, segmentSize, Sendable, HandsOut, Finds, ShowsNext};
 use constants::UDX_HEADER_SIZE;
 use records::Queue;
 use records::Sender;
@@ -32,7 +32,7 @@ fn to_transmit(
     headers: &[u8],
     buf: &mut [u8],
 ) -> Progress
-    requires { ⌜ Takeable q s k (drive .0) (now sent) (now queue) (now outgoing) (now headers) (now buf) ⌝ }
+    requires { ⌜ CanTake q s k (drive .0) (now sent) (now queue) (now outgoing) (now headers) (now buf) ⌝ }
     ensures { λ r. ⌜ Takes q s k (drive .0) (now (sent .entry)) (now (queue .entry)) (now (outgoing .entry)) (now (headers .entry)) (now (buf .entry)) r (now (sent .exit)) (now (buf .exit)) ⌝ }
 {
     word_count(queue);
@@ -129,7 +129,7 @@ struct Next {
 // The first entry left to take whose packet is there. A state packet always is, so the search passes none, and the first one's place is
 // that of the first one queued.
 fn next_entry(q: Queue, s: Sender, sent: &[u64; 64], queue: &[u64; 128]) -> Next
-    requires { ⌜ QueueFormed q (now queue) × Stored s (now sent) 7 ⌝ }
+    requires { ⌜ QueueFormed q (now queue) × AllTransmitBounds s (now sent) 7 ⌝ }
     ensures { λ r. ⌜ Finds q s (now (sent .entry)) (now (queue .entry)) r ⌝ }
 {
     word_count(queue);
@@ -169,8 +169,8 @@ pub fn look_next<'a>(
     outgoing: &'a [u8],
     headers: &'a [u8],
 ) -> &'a [u8]
-    requires { ⌜ Kept q s (now sent) (now queue) (now outgoing) (now headers) ⌝ }
-    ensures { λ r. ⌜ Shows q s (now (sent .entry)) (now (queue .entry)) (now (outgoing .entry)) (now (headers .entry)) (now r) ⌝ }
+    requires { ⌜ TakeRules q s (now sent) (now queue) (now outgoing) (now headers) ⌝ }
+    ensures { λ r. ⌜ ShowsNext q s (now (sent .entry)) (now (queue .entry)) (now (outgoing .entry)) (now (headers .entry)) (now r) ⌝ }
 {
     let x = next_entry(q, s, sent, queue);
     if x.state {

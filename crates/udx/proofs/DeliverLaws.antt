@@ -34,7 +34,7 @@ use Rattle.records.specs.Open.{storesTest}
 use Rattle.deliver_data.specs.Absorbing.{Accepted}
 use Rattle.records.proofs.LaidLaws.{laid-said, laid-says}
 use Rattle.deliver_parts.specs.declared.Delivered.{Delivered}
-use Rattle.deliver_all.specs.Handle.{Deliverable, Handled, withDelivered}
+use Rattle.deliver_all.specs.Handle.{CanDeliver, Handled, withDelivered}
 use Rattle.udx_steps.specs.Steps.{refusedStep}
 use Rattle.udx.specs.Agree.{laidOut, onRecords, Agrees, Answers}
 use Rattle.udx_steps.specs.Deliver.{deliveredStep}
@@ -207,7 +207,7 @@ module _ (s : Stream) (t : Totals) (l : Lent) (len : length (l .queue) ≡ 128) 
                 near = leb-false (s .receiver .«read_cursor» + 32) (h .seq) (and-false (hasType 1 (h .typ)) (leb (s .receiver .«read_cursor» + 32) (h .seq)) carries (tests .2));
               }
 
-          pub deliverable : (payload : Bytes) → payload ≡ drop 20 datagram → Deliverable s clock h (l .queue) (l .incoming) (l .headers) payload
+          pub deliverable : (payload : Bytes) → payload ≡ drop 20 datagram → CanDeliver s clock h (l .queue) (l .incoming) (l .headers) payload
           unfolding seen
           deliverable payload part =
               let k = rules-say (seen s t l) (whole .kept) in

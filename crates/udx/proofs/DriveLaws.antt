@@ -24,7 +24,7 @@ use Rattle.drive_drain.specs.Draining.{Drains}
 use Rattle.drive_lost.proofs.RulesDrive.{rules-stored}
 use Rattle.drive_settle.specs.declared.Polled.{Polled}
 use Rattle.drive_timeouts.specs.Timeouts.{withPolled}
-use Rattle.drive_all.specs.Poll.{Drivable, Polls}
+use Rattle.drive_all.specs.Poll.{CanDrive, Polls}
 use Rattle.udx_steps.specs.Steps.{refusedStep}
 use Rattle.udx.specs.Agree.{onRecords, Agrees, Answers}
 use Rattle.udx_steps.specs.Drive.{doneStep, polledStep}
@@ -100,7 +100,7 @@ module _ (s : Stream) (t : Totals) (l : Lent) (len : length (l .queue) ≡ 128) 
             }
 
     -- a queue at rest has at most 63 state packets and an entry for each of 32 numbers
-    pub drivable : Drivable s clock (l .sent) (l .queue) (l .headers)
+    pub drivable : CanDrive s clock (l .sent) (l .queue) (l .headers)
     unfolding seen seenQueue
     drivable =
         let k = rules-say (seen s t l) (whole .kept) in

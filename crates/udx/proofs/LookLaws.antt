@@ -12,7 +12,7 @@ use Rattle.records.specs.declared.Totals.{Totals}
 use Rattle.records.specs.Seen.{Lent, seen, formed}
 use Rattle.records.specs.Open.{storesTest}
 use Rattle.rules_stream.proofs.Seen.{ok-seen}
-use Rattle.take_next.specs.Take.{Kept, Shows}
+use Rattle.take_next.specs.Take.{TakeRules, ShowsNext}
 use Rattle.take_next.proofs.RulesTake.{own-lends, rules-kept}
 use Rattle.udx.specs.Agree.{laidOut}
 use Rattle.udx.specs.Look.{shownOf}
@@ -34,10 +34,10 @@ module _ (s : Stream) (t : Totals) (l : Lent) (len : length (l .queue) ≡ 128) 
       nothing (storesTest (l .outgoing) (l .incoming) (l .headers)) (formed s (l .queue)) (rules e) (ltb 0 (e .queue .left)) (firstThere (e .sender .outgoing) (e .queue .entries))
       (rw (ok-seen s t l len) at h)
 
-  pub look-kept : brokenRecords s t l ≡ false → Kept (s .queue) (s .sender) (l .sent) (l .queue) (l .outgoing) (l .headers)
+  pub look-kept : brokenRecords s t l ≡ false → TakeRules (s .queue) (s .sender) (l .sent) (l .queue) (l .outgoing) (l .headers)
   look-kept h = let w = unbroken s t l len h in rules-kept s t l (w .kept) (w .queue) (w .outgoing) (w .headers)
 
-  pub look-shows : (shown : Bytes) → brokenRecords s t l ≡ false → Shows (s .queue) (s .sender) (l .sent) (l .queue) (l .outgoing) (l .headers) shown → shown ≡ shownOf s t l
+  pub look-shows : (shown : Bytes) → brokenRecords s t l ≡ false → ShowsNext (s .queue) (s .sender) (l .sent) (l .queue) (l .outgoing) (l .headers) shown → shown ≡ shownOf s t l
   unfolding shownOf
   look-shows shown h x =
       let w = unbroken s t l len h in

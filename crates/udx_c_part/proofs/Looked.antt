@@ -26,7 +26,7 @@ use Rattle.records.proofs.Cut.{cut-length}
 use Rattle.records.proofs.FormedQueue.{queue-says}
 use Rattle.take_entry.specs.Transmit.{storeSeen, isThere}
 use Rattle.take_entry.proofs.TakeOne.{state-bytes, packet-bytes, get-there, there-low, there-high, there-stored}
-use Rattle.take_next.specs.Take.{Stored}
+use Rattle.take_next.specs.Take.{AllTransmitBounds}
 use Rattle.take_next.proofs.RulesTake.{rules-kept}
 use Rattle.rules_lent.specs.Broken.{brokenRecords}
 use Rattle.udx.specs.Agree.{laidOut}
@@ -59,7 +59,7 @@ module _ (s : Stream) (t : Totals) (l : Lent) (len : length (l .queue) ≡ 128) 
 
 -- the bytes at the part
 
-module _ (s : Sender) (sent : List ℕ) (outgoing headers : Bytes) (stored : Stored s sent 7) (slots : length outgoing ≡ 44_800) (places : length headers ≡ 1_280)
+module _ (s : Sender) (sent : List ℕ) (outgoing headers : Bytes) (stored : AllTransmitBounds s sent 7) (slots : length outgoing ≡ 44_800) (places : length headers ≡ 1_280)
     (place : ℕ) where
   abbrev Shown : List ℕ → Type 0
   Shown ws =

@@ -7,12 +7,12 @@ use lib.ListN.{length}
 use borrow.Author.Needs.{needs}
 use Rattle.model.specs.Lists.{Bytes}
 use Rattle.session_ends.specs.Calls.{stores}
-use Rattle.session_turn.specs.Whole.{Sized}
+use Rattle.session_turn.specs.Whole.{StoreLengths}
 use Rattle.session_turn.proofs.opening.open_ends.Statement.{statement}
 use Rattle.session_turn.proofs.opening.open_ends.Tie as tie
 
 sized : (outgoing incoming headers : Bytes) → length outgoing ≡ 44_800 → length incoming ≡ 44_160 → length headers ≡ 1_280
-    → Sized (stores outgoing incoming headers)
+    → StoreLengths (stores outgoing incoming headers)
 sized outgoing incoming headers o i h = rw (o, i, h) refl
 
 -- a call on an array as a slice says its length
