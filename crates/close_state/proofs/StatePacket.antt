@@ -1,6 +1,6 @@
 -- A state packet on the records is the model's. Its bytes at the next place and its word at the end of the queue are one more entry of
 -- what is seen (`state-queued`, from the laws of a pushed entry); over a whole stream that is `sendStatePacket` (`state-seen`), and with
--- the ending replaced first `terminate` (`terminate-seen`). Assumes nothing.
+-- the ending replaced first `terminate` (`terminate-seen`).
 use Prim.Native.Nat.{ℕ, _+_, _*_, _<_, _≤_}
 use native.Mathlib.Omega.{arith}
 use mathlib.Core.Path.{_≡_, refl, ap, sym, _∙_}

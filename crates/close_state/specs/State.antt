@@ -1,5 +1,5 @@
 -- How a stream ends, and a state packet on the records: its header, its queue entry, the numbers after it, and what is seen of the queue
--- then. Assumes nothing.
+-- then.
 use Prim.Native.Nat.{ℕ, _+_, _%_, _^_, _<_}
 use mathlib.Core.Path.{_≡_}
 use mathlib.Core.List.{List}

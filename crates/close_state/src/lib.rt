@@ -141,7 +141,8 @@ pub fn send_state_packet(
     headers: &mut [u8],
 ) -> Queued
     requires { ⌜ Pushable q (length (now headers)) ⌝ }
-    ensures { λ r. ⌜ StateQueued q t error remote seq ack (now (queue .entry)) (now (headers .entry)) r (now (queue .exit)) (now (headers .exit)) ⌝ }
+    ensures { λ r. ⌜ StateQueued q t error remote seq ack (now (queue .entry)) (now (headers .entry)) r
+        (now (queue .exit)) (now (headers .exit)) ⌝ }
 {
     records::word_count(queue);
     let h = state_header(error, remote, seq, ack);

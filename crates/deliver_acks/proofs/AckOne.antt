@@ -1,5 +1,5 @@
 -- One acknowledged number: where its packet is stored the cleared word is the model's store without it and the numbers are the model's;
--- where it is not, nothing changes in either. Assumes nothing.
+-- where it is not, nothing changes in either.
 use Prim.Native.Nat.{ℕ, _+_, _-_, _%_, _^_, _≤_, _<_}
 use mathlib.Core.Path.{_≡_, refl, ap, ap₂, sym, _∙_}
 use mathlib.Core.List.{List}

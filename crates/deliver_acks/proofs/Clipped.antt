@@ -1,5 +1,5 @@
 -- A run over the numbers of a block is the run over those of the window: no other number is stored, and acknowledging what is not
--- stored changes nothing. A run splits where one likes. Assumes nothing.
+-- stored changes nothing. A run splits where one likes.
 use Prim.Native.Nat.{ℕ, zero, suc, _+_, _-_, _≤_, _<_, max, min}
 use native.Mathlib.Decide.{decLe}
 use native.Mathlib.Omega.{arith}

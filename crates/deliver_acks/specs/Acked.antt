@@ -1,4 +1,4 @@
--- One acknowledged packet on the records: the numbers after it, and that what is seen is the model's. Assumes nothing.
+-- One acknowledged packet on the records: the numbers after it, and that what is seen is the model's.
 use Prim.Native.Nat.{ℕ, _+_, _-_, _^_, _≤_, _<_}
 use mathlib.Core.Path.{_≡_}
 use mathlib.Core.List.{List}

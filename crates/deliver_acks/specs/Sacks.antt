@@ -1,5 +1,5 @@
 -- Runs of acknowledged numbers on the records: a run of the window, a SACK block, and all blocks of a payload, as the model's runs over
--- every number of them. Assumes nothing.
+-- every number of them.
 use Prim.Native.Nat.{ℕ, _+_, _-_, _≤_, _<_}
 use mathlib.Core.Path.{_≡_}
 use mathlib.Core.List.{List}

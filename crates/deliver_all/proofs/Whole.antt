@@ -1,4 +1,4 @@
--- The parts of a delivery one after another, and the largest ack and the window at the end, are `handleIncoming`. Assumes nothing.
+-- The parts of a delivery one after another, and the largest ack and the window at the end, are `handleIncoming`.
 use Prim.Native.Nat.{ℕ, _+_, _≤_, _<_}
 use native.Mathlib.Omega.{arith}
 use mathlib.Core.Path.{_≡_, refl, ap, sym, subst, _∙_}

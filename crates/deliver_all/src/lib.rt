@@ -27,7 +27,8 @@ fn before_data(
     payload: &[u8],
 ) -> Delivered
     requires { ⌜ Measured s (clock .0) × Pushable (s .queue) (length (now headers)) ⌝ }
-    ensures { λ r. ⌜ Began s t (clock .0) h (now (payload .entry)) (now (sent .entry)) (now (queue .entry)) (now (headers .entry)) r (now (sent .exit)) (now (queue .exit)) (now (headers .exit)) ⌝ }
+    ensures { λ r. ⌜ Began s t (clock .0) h (now (payload .entry)) (now (sent .entry)) (now (queue .entry))
+        (now (headers .entry)) r (now (sent .exit)) (now (queue .exit)) (now (headers .exit)) ⌝ }
 {
     let counted = counted_received(t);
     let stream = clocked(s, clock);
@@ -51,7 +52,9 @@ pub fn handle_incoming(
     payload: &[u8],
 ) -> Delivered
     requires { ⌜ CanDeliver s (clock .0) h (now queue) (now incoming) (now headers) (now payload) ⌝ }
-    ensures { λ r. ⌜ Handled s t (clock .0) h (now (payload .entry)) (now (sent .entry)) (now (held .entry)) (now (queue .entry)) (now (incoming .entry)) (now (headers .entry)) r (now (sent .exit)) (now (held .exit)) (now (queue .exit)) (now (incoming .exit)) (now (headers .exit)) ⌝ }
+    ensures { λ r. ⌜ Handled s t (clock .0) h (now (payload .entry)) (now (sent .entry)) (now (held .entry))
+        (now (queue .entry)) (now (incoming .entry)) (now (headers .entry)) r (now (sent .exit)) (now (held .exit))
+        (now (queue .exit)) (now (incoming .exit)) (now (headers .exit)) ⌝ }
 {
     let b = before_data(s, t, clock, h, sent, queue, headers, payload);
     let began = b.stream;

@@ -1,6 +1,6 @@
 -- DATA on the records against the model: the loop that clears a gap, the packet that is held and the loop that moves ack. A gap's words
 -- are no packets, so top may pass them; ack stops at the first number that is not held, at top at the latest, so that the model's
--- steps are enough. Assumes nothing.
+-- steps are enough.
 use Prim.Native.Nat.{ℕ, zero, suc, _+_, _-_, _*_, _%_, _≤_, _<_, max}
 use native.Mathlib.Numerals.{add-one}
 use native.Mathlib.Omega.{arith}

@@ -1,5 +1,5 @@
 -- What DATA does to the receiving group: what may be assumed of it, and what a gap that is cleared, a packet that is held and an ack
--- that moves are to the model's receiver. Where a function is not lent the store, it holds for every store. Assumes nothing.
+-- that moves are to the model's receiver. Where a function is not lent the store, it holds for every store.
 use Prim.Native.Nat.{ℕ, _+_, _-_, _≤_, _<_, max}
 use mathlib.Core.Path.{_≡_}
 use mathlib.Core.List.{List}

@@ -37,7 +37,8 @@ fn insert(
     payload: &[u8],
 ) -> Receiver
     requires { ⌜ Accepted r (now incoming) n (now payload) × (r .ack ≤ n) ⌝ }
-    ensures { λ r′. ⌜ Inserted r (now (held .entry)) (now (incoming .entry)) n (now (payload .entry)) r′ (now (held .exit)) (now (incoming .exit)) ⌝ }
+    ensures { λ r′. ⌜ Inserted r (now (held .entry)) (now (incoming .entry)) n (now (payload .entry)) r′
+        (now (held .exit)) (now (incoming .exit)) ⌝ }
 {
     let past = payload.len() as u32 + 1;
     let p = Held {
@@ -83,7 +84,8 @@ pub fn absorb(
     payload: &[u8],
 ) -> Receiver
     requires { ⌜ Accepted r (now incoming) n (now payload) ⌝ }
-    ensures { λ r′. ⌜ Absorbed r (now (held .entry)) (now (incoming .entry)) n (now (payload .entry)) r′ (now (held .exit)) (now (incoming .exit)) ⌝ }
+    ensures { λ r′. ⌜ Absorbed r (now (held .entry)) (now (incoming .entry)) n (now (payload .entry)) r′
+        (now (held .exit)) (now (incoming .exit)) ⌝ }
 {
     if n < r.ack {
         return in_order(r, held);

@@ -1,4 +1,4 @@
--- The numbers after a delivery: the totals, the clock, and the sender's largest ack and window. Assumes nothing.
+-- The numbers after a delivery: the totals, the clock, and the sender's largest ack and window.
 use Prim.Native.Nat.{ℕ, _+_, _%_, _^_, max}
 use mathlib.Core.Bool.{cond}
 use lib.Dec.{ltb}

@@ -1,6 +1,5 @@
 -- Each part of a delivery on the records is the model's part on what is seen: SACK blocks by the law of their run, END by that of
 -- `terminate`, DATA by those of what is held and of a state packet. A part that the type does not ask for changes nothing.
--- Assumes nothing.
 use Prim.Native.Nat.{ℕ, _+_, _≤_}
 use native.Mathlib.Omega.{arith}
 use mathlib.Core.Path.{_≡_, refl, ap, ap₂, sym, _∙_}

@@ -1,5 +1,4 @@
 -- The parts of a delivery on the records: each is the model's part on what is seen, over any words and stores that it is not lent.
--- Assumes nothing.
 use Prim.Native.Nat.{ℕ, _+_, _^_, _≤_, _<_}
 use mathlib.Core.Path.{_≡_}
 use mathlib.Core.List.{List}

@@ -104,7 +104,9 @@ pub fn on_data(
     payload: &[u8],
 ) -> Delivered
     requires { ⌜ Pushable (s .queue) (length (now headers)) × TakesData s h (now incoming) (now payload) ⌝ }
-    ensures { λ r. ⌜ TookData s t h (now (payload .entry)) (now (held .entry)) (now (queue .entry)) (now (incoming .entry)) (now (headers .entry)) r (now (held .exit)) (now (queue .exit)) (now (incoming .exit)) (now (headers .exit)) ⌝ }
+    ensures { λ r. ⌜ TookData s t h (now (payload .entry)) (now (held .entry)) (now (queue .entry))
+        (now (incoming .entry)) (now (headers .entry)) r (now (held .exit)) (now (queue .exit)) (now (incoming .exit))
+        (now (headers .exit)) ⌝ }
 {
     let mut stream = s;
     if h.is_data() {

@@ -1,5 +1,5 @@
 -- The parts of a drive one after another are `pollDrive`. The queue has room: what is queued at rest and one state packet more leave a
--- place for every number. Assumes nothing.
+-- place for every number.
 use Prim.Native.Nat.{ℕ, _+_, _-_, _≤_, _<_}
 use native.Mathlib.Omega.{arith}
 use mathlib.Core.Path.{_≡_, refl, ap, sym, subst, _∙_}

@@ -32,7 +32,8 @@ fn before_flush(
     headers: &mut [u8],
 ) -> Polled
     requires { ⌜ CanDrive s (clock .0) (now sent) (now queue) (now headers) ⌝ }
-    ensures { λ r. ⌜ Begun s t (clock .0) (now (sent .entry)) (now (queue .entry)) (now (headers .entry)) r (now (sent .exit)) (now (queue .exit)) (now (headers .exit)) ⌝ }
+    ensures { λ r. ⌜ Begun s t (clock .0) (now (sent .entry)) (now (queue .entry)) (now (headers .entry)) r
+        (now (sent .exit)) (now (queue .exit)) (now (headers .exit)) ⌝ }
 {
     let stream = clocked(s, clock);
     let a = handle_incoming_max_remote_ack(stream, t, clock, sent);
@@ -69,7 +70,8 @@ pub fn poll_drive(
     headers: &mut [u8],
 ) -> Polled
     requires { ⌜ CanDrive s (clock .0) (now sent) (now queue) (now headers) ⌝ }
-    ensures { λ r. ⌜ Polls s t (clock .0) (now (sent .entry)) (now (queue .entry)) (now (headers .entry)) r (now (sent .exit)) (now (queue .exit)) (now (headers .exit)) ⌝ }
+    ensures { λ r. ⌜ Polls s t (clock .0) (now (sent .entry)) (now (queue .entry)) (now (headers .entry)) r
+        (now (sent .exit)) (now (queue .exit)) (now (headers .exit)) ⌝ }
 {
     let b = before_flush(s, t, clock, sent, queue, headers);
     let checked = b.stream;

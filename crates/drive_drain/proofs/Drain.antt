@@ -1,5 +1,5 @@
 -- The search for a stored packet (`Searching`): none of the numbers before n is stored, so what the model finds from n on is what it finds
--- from the first. With nothing left to take the queue is empty just where its count is 0. Assumes nothing.
+-- from the first. With nothing left to take the queue is empty just where its count is 0.
 use Prim.Native.Nat.{ℕ, suc, _+_, _-_, _%_, _≤_, _<_}
 use native.Mathlib.Numerals.{add-one}
 use native.Mathlib.Omega.{arith}

@@ -1,5 +1,4 @@
 -- The ends of a drive on the records: whether anything is stored, whether a stream that ended is drained, and the queue that a drive leaves.
--- Assumes nothing.
 use Prim.Native.Nat.{ℕ, _-_, _≤_}
 use mathlib.Core.Path.{_≡_}
 use mathlib.Core.List.{List}

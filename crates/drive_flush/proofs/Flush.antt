@@ -1,6 +1,6 @@
 -- The loop over the waiting packets of the records (`Going`): what the model's loop does from number n on is what it does from the first,
 -- each turn being one turn of it. A packet that is not there or does not wait is passed, one that does not fit ends the loop, any other is
--- marked and queued. There is a place in the queue for each number that is left. Assumes nothing.
+-- marked and queued. There is a place in the queue for each number that is left.
 use Prim.Native.Nat.{ℕ, suc, _+_, _-_, _%_, _^_, _≤_, _<_}
 use native.Mathlib.Numerals.{add-one}
 use native.Mathlib.Omega.{arith}

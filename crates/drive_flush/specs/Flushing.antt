@@ -1,4 +1,4 @@
--- Waiting packets of the records are queued again: the model's loop on what is seen. Assumes nothing.
+-- Waiting packets of the records are queued again: the model's loop on what is seen.
 use Prim.Native.Nat.{ℕ, _+_, _-_, _≤_}
 use mathlib.Core.Path.{_≡_}
 use mathlib.Core.List.{List}

@@ -1,5 +1,5 @@
 -- A stored packet gets another waiting mark and another number of transmits: the words say just that, what is seen is the model's store with
--- that packet marked, and every stored packet keeps the rules that it is read by. Assumes nothing.
+-- that packet marked, and every stored packet keeps the rules that it is read by.
 use Prim.Native.Nat.{ℕ, _+_, _%_, _^_, _≤_, _<_}
 use native.Mathlib.Omega.{arith}
 use mathlib.Core.Path.{_≡_, refl}

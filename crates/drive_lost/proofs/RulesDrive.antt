@@ -1,4 +1,4 @@
--- What drive's loops need of the stored packets is what 01's rules give: records whose end keeps the rules are `AllSentBounds`. Assumes nothing.
+-- What drive's loops need of the stored packets is what 01's rules give: records whose end keeps the rules are `AllSentBounds`.
 use Prim.Native.Nat.{ℕ, _%_, _^_, _≤_, _<_}
 use native.Mathlib.Omega.{arith}
 use mathlib.Core.Path.{_≡_, refl, _∙_, ap}

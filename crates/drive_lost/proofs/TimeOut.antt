@@ -1,6 +1,5 @@
 -- The pass of a due timer over the records (`Going`): what the model's loop does from number n on is what it does from the first, each turn
 -- being one turn of it. A packet that is not there or waits is passed, one without a transmit left ends the pass, any other is marked lost.
--- Assumes nothing.
 use Prim.Native.Nat.{ℕ, suc, _+_, _-_, _%_, _^_, _≤_, _<_}
 use native.Mathlib.Numerals.{add-one}
 use native.Mathlib.Omega.{arith}

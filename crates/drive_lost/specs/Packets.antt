@@ -1,5 +1,4 @@
 -- The stored packets as drive's loops meet them: what 01's rules say of each, and a stream whose sender or words are replaced.
--- Assumes nothing.
 use Prim.Native.Nat.{ℕ, _%_, _^_, _≤_, _<_}
 use mathlib.Core.Path.{_≡_}
 use mathlib.Core.List.{List}

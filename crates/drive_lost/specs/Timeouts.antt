@@ -1,4 +1,4 @@
--- What a due timer does to the stored packets of the records: the model's loop on what is seen. Assumes nothing.
+-- What a due timer does to the stored packets of the records: the model's loop on what is seen.
 use Prim.Native.Nat.{ℕ, _+_, _-_}
 use mathlib.Core.Path.{_≡_}
 use mathlib.Core.List.{List}

@@ -1,5 +1,5 @@
 -- All numbers up to the largest ack are settled: what the model still settles from here on gives what it settles from the start. The
--- packets that stay are those that were stored, so they keep their rules. Assumes nothing.
+-- packets that stay are those that were stored, so they keep their rules.
 use Prim.Native.Nat.{ℕ, zero, suc, _+_, _-_, _%_, _^_, _≤_, _<_}
 use native.Mathlib.Omega.{arith}
 use mathlib.Core.Path.{_≡_, refl, ap, sym, subst, _∙_}

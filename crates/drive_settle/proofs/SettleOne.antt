@@ -1,5 +1,5 @@
 -- The lowest number is settled: its packet leaves where it is stored, as acking has it, and since it is not stored then, what is seen from
--- the next number on is the same store. Assumes nothing.
+-- the next number on is the same store.
 use Prim.Native.Nat.{ℕ, suc, _+_, _≤_, _<_}
 use native.Mathlib.Numerals.{add-one}
 use native.Mathlib.Omega.{arith}

@@ -1,4 +1,4 @@
--- Settling on the records: one number, all of them, and the deadline after them, as the model on what is seen. Assumes nothing.
+-- Settling on the records: one number, all of them, and the deadline after them, as the model on what is seen.
 use Prim.Native.Nat.{ℕ, _+_, _-_, _^_, _≤_, _<_}
 use mathlib.Core.Path.{_≡_}
 use mathlib.Core.List.{List}

@@ -1,5 +1,5 @@
 -- The check of timeouts on the records is the model's on what is seen: the timer's own laws for a due one, that of `terminate` where a
--- packet failed, and nothing where the timer is not due. Assumes nothing.
+-- packet failed, and nothing where the timer is not due.
 use Prim.Native.Nat.{ℕ, _+_, _-_, _≤_, _<_}
 use native.Mathlib.Omega.{arith}
 use mathlib.Core.Path.{_≡_, refl, ap, ap₂, sym, subst, _∙_}

@@ -1,5 +1,5 @@
 -- Timeouts on the records: the packets that a due timer considers lost, the stream that ends by TimedOut, and the whole check, as the model
--- on what is seen. Assumes nothing.
+-- on what is seen.
 use Prim.Native.Nat.{ℕ, _+_, _-_, _*_, _^_, _≤_, _<_}
 use mathlib.Core.Path.{_≡_}
 use mathlib.Core.List.{List}

@@ -38,7 +38,8 @@ fn consider_lost(s: Stream, clock: Nanos, sent: &mut [u64; 64]) -> Lost
 // "TimedOut terminates as in terminate"
 fn timed_out(s: Stream, t: Totals, queue: &mut [u64; 128], headers: &mut [u8]) -> Polled
     requires { ⌜ Pushable (s .queue) (length (now headers)) ⌝ }
-    ensures { λ r. ⌜ TimesOutStream s t (now (queue .entry)) (now (headers .entry)) r (now (queue .exit)) (now (headers .exit)) ⌝ }
+    ensures { λ r. ⌜ TimesOutStream s t (now (queue .entry)) (now (headers .entry)) r (now (queue .exit))
+        (now (headers .exit)) ⌝ }
 {
     let before = s.ending;
     let ending = close_state::terminated(before, UdxError::TimedOut);
@@ -72,7 +73,8 @@ pub fn poll_check_timeouts(
     headers: &mut [u8],
 ) -> Polled
     requires { ⌜ Checkable s (clock .0) (now sent) (now headers) ⌝ }
-    ensures { λ r. ⌜ Checked s t (clock .0) (now (sent .entry)) (now (queue .entry)) (now (headers .entry)) r (now (sent .exit)) (now (queue .exit)) (now (headers .exit)) ⌝ }
+    ensures { λ r. ⌜ Checked s t (clock .0) (now (sent .entry)) (now (queue .entry)) (now (headers .entry)) r
+        (now (sent .exit)) (now (queue .exit)) (now (headers .exit)) ⌝ }
 {
     let timing = s.timing;
     let sender = s.sender;

@@ -1,5 +1,4 @@
 -- The retransmission timer on the records: what is seen of the timing, when the timer is due, and the sender after a due one.
--- Assumes nothing.
 use Prim.Native.Nat.{ℕ}
 use mathlib.Core.Path.{_≡_}
 use mathlib.Core.List.{List}

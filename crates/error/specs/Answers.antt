@@ -1,4 +1,4 @@
--- The numbers of 01's refusals, and how a stream's error is answered. Assumes nothing.
+-- The numbers of 01's refusals, and how a stream's error is answered.
 use Prim.Native.Nat.{ℕ}
 use Rattle.error.specs.declared.UdxError.{UdxError}
 use Rattle.error.specs.declared.UdxError.the-variants as error

@@ -1,4 +1,4 @@
--- Lists: what holds of every element, joined sequences, and a value picked by a test. Assumes nothing.
+-- Lists: what holds of every element, joined sequences, and a value picked by a test.
 use Prim.Native.Nat.{ℕ, suc, _≤_, _<_}
 use native.Mathlib.Omega.{arith}
 use mathlib.Core.Path.{_≡_, refl, sym, ap, _∙_, subst}

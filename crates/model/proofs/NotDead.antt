@@ -1,6 +1,6 @@
 -- No dead stream, over every end: the proof of `NotDead`. The tests of a call fail by the facts that let it go; what a drive keeps queued
 -- and stored goes through its loops by one induction a loop; flushing goes up from the lowest number and stops only at a packet that does
--- not fit. None of it uses the invariant of calls from a fresh stream. Assumes nothing.
+-- not fit. None of it uses the invariant of calls from a fresh stream.
 use Prim.Native.Nat.{ℕ, zero, suc, _+_, _-_, _%_, _^_, _≤_, _<_, min}
 use native.Mathlib.Decide.{ℕ-discrete}
 use native.Mathlib.Omega.{arith}

@@ -1,5 +1,5 @@
 -- The test of the rules and the rules as facts say the same (`rules-say`, `rules-said`), part by part: each line of the test is an
--- order or an equation of numbers. And bounds that follow: a full store's bytes, and how long a queue at rest can be. Assumes nothing.
+-- order or an equation of numbers. And bounds that follow: a full store's bytes, and how long a queue at rest can be.
 use Prim.Native.Nat.{ℕ, zero, suc, _+_, _*_, _%_, _≤_, _<_, zero-le}
 use native.Mathlib.Nat.{add-suc}
 use native.Mathlib.Decide.{ℕ-discrete}

@@ -1,6 +1,6 @@
 -- A store whose values stand in their slots and have numbers from n to below n + k: a test of every slot is a test of these k numbers
 -- (`every-number`), a sum over the slots a sum over these k numbers (`sum-number`). The test goes through what it says of each value; the
--- sum by taking the lowest number out, k times. Assumes nothing.
+-- sum by taking the lowest number out, k times.
 use Prim.Native.Nat.{ℕ, zero, suc, _+_, _%_, _≤_, _<_}
 use native.Mathlib.Decide.{ℕ-discrete}
 use native.Mathlib.Omega.{arith}

@@ -1,4 +1,4 @@
--- Every value of a store keeps a property, and sums over a store, as values come, change and leave. Assumes nothing.
+-- Every value of a store keeps a property, and sums over a store, as values come, change and leave.
 use Prim.Native.Nat.{ℕ, zero, suc, _+_, _%_, _<_}
 use native.Mathlib.Decide.{ℕ-discrete}
 use native.Mathlib.Omega.{arith}

@@ -1,5 +1,5 @@
 -- The laws of `get`, `insert` and `remove`: what a store holds after either, at the same number and at others. Numbers within a
--- ceiling of each other that are not equal have different slots (`apart`). Assumes nothing.
+-- ceiling of each other that are not equal have different slots (`apart`).
 use Prim.Native.Nat.{ℕ, zero, suc, _+_, _%_, _≤_, _<_}
 use native.Mathlib.Decide.{ℕ-discrete}
 use native.Mathlib.Omega.{arith}

@@ -1,4 +1,4 @@
--- A header and a payload as bytes: their length, and that both are read back. Assumes nothing.
+-- A header and a payload as bytes: their length, and that both are read back.
 use Prim.Native.Nat.{_+_, _^_, _<_}
 use native.Mathlib.Omega.{arith}
 use mathlib.Core.Path.{_≡_, refl}

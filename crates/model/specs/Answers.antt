@@ -1,4 +1,4 @@
--- What a call answers: the first refusal of a list of tests, or what the call does. Assumes nothing.
+-- What a call answers: the first refusal of a list of tests, or what the call does.
 use Prim.Native.Nat.{ℕ}
 use mathlib.Core.List.{List, [], _∷_}
 use mathlib.Core.Option.{Option, none, some}

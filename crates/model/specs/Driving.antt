@@ -1,4 +1,4 @@
--- What goes out: settling, timeouts, flushing, and the calls drive, take and look. Assumes nothing.
+-- What goes out: settling, timeouts, flushing, and the calls drive, take and look.
 use Prim.Native.Nat.{ℕ, zero, suc, _+_, _-_, _*_, min}
 use mathlib.Core.List.{List, [], _∷_, _++_}
 use mathlib.Core.Option.{Option, none, some}

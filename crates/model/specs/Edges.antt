@@ -1,4 +1,4 @@
--- 01, 'Edges (m: proved)': every edge marked m, as one computed list with one theorem, `edges-hold`. Assumes nothing.
+-- 01, 'Edges (m: proved)': every edge marked m, as one computed list with one theorem, `edges-hold`.
 use Prim.Native.Nat.{ℕ, _*_}
 use mathlib.Core.Path.{_≡_, refl}
 use mathlib.Core.List.{List, [], _∷_, map}

@@ -1,7 +1,6 @@
 -- Examples computed over the definitions: 01's example session, a packet's whole way with its ack's way back, a packet that is
 -- resent, one that is never acknowledged, and 01's traps with the other steps that are easily off by one. A wrong definition of one of
 -- these steps fails here, whatever the proofs about all runs say. Statements; all of them are computed in proofs/Examples.antt.
--- Assumes nothing.
 use Prim.Native.Nat.{ℕ}
 use mathlib.Core.Path.{_≡_}
 use mathlib.Core.List.{List, [], _∷_, map}

@@ -1,4 +1,4 @@
--- Bytes, pieces and optional values: what the definitions of a stream are written with. Assumes nothing.
+-- Bytes, pieces and optional values: what the definitions of a stream are written with.
 use Prim.Native.Nat.{ℕ, zero, suc}
 use mathlib.Core.List.{List, [], _∷_, _++_}
 use mathlib.Core.Option.{Option, none, some}

@@ -1,7 +1,7 @@
 -- 01, 'What the contracts say', 2: "Shut out by demand 2: refusing every datagram, answering waiting to all writes, answering done or none
 -- with packets queued, queuing everything in the first drive and idling later, inventing inflight or totals." The statement is `NotDead`,
 -- with a field for each of these over every end, whether calls reach it or not; above it are the calls that 01 lets through, as facts
--- in which the tests of the calls do not occur. Statements only: the proof is proofs/NotDead.antt. Assumes nothing.
+-- in which the tests of the calls do not occur. Statements only: the proof is proofs/NotDead.antt.
 use Prim.Native.Nat.{ℕ, _+_, _*_, _%_, _^_, _≤_, _<_, min}
 use mathlib.Core.Path.{_≡_}
 use mathlib.Core.List.{List, [], _∷_, _++_}

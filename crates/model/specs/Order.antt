@@ -1,6 +1,6 @@
 -- 01, 'Seventeen refusals, in checking order': the refusals that each call tests, by 01's numbers, in the order in which it tests them.
 -- A call answers with the first that holds (`first`, Answers.antt). Beside them the refusals of header coding, and those that a read
--- answers by the stream's error. Statement only: the proof is proofs/Order.antt. Assumes nothing.
+-- answers by the stream's error. Statement only: the proof is proofs/Order.antt.
 use Prim.Native.Nat.{ℕ, _≤_, _<_}
 use mathlib.Core.Path.{_≡_}
 use mathlib.Core.List.{[], _∷_, map}

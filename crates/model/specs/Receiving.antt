@@ -1,4 +1,4 @@
--- What arrives: acknowledged packets leave, payloads are held and read; the calls deliver and read. Assumes nothing.
+-- What arrives: acknowledged packets leave, payloads are held and read; the calls deliver and read.
 use Prim.Native.Nat.{ℕ, zero, suc, _+_, _-_, _^_, max}
 use mathlib.Core.List.{List, [], _∷_, _++_}
 use mathlib.Core.Option.{Option, none}

@@ -1,4 +1,4 @@
--- 01, 'Rules of the records', as one test. Each line is a rule over plain numbers. Assumes nothing.
+-- 01, 'Rules of the records', as one test. Each line is a rule over plain numbers.
 use Prim.Native.Nat.{ℕ, suc, _+_, _*_, _-_, _%_, _^_}
 use mathlib.Core.List.{List, [], _∷_}
 use mathlib.Core.Option.{Option, none, some}

@@ -1,5 +1,5 @@
 -- The rules of the records as facts, for proofs: a record with a field for each rule of specs/Rules.antt. That it is the same as the test,
--- `rules e ≡ true`, is proofs/RulesKept.antt. Assumes nothing.
+-- `rules e ≡ true`, is proofs/RulesKept.antt.
 use Prim.Native.Nat.{ℕ, _+_, _%_, _^_, _≤_, _<_}
 use mathlib.Core.Path.{_≡_}
 use mathlib.Core.List.{List, [], _∷_}

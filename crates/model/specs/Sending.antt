@@ -1,4 +1,4 @@
--- Making packets: headers, state packets, ending, and the calls open, write and close. Assumes nothing.
+-- Making packets: headers, state packets, ending, and the calls open, write and close.
 use Prim.Native.Nat.{ℕ, zero, suc, _+_, _-_, _%_, _^_}
 use mathlib.Core.List.{List, [], _∷_, _++_}
 use mathlib.Core.Option.{Option, none}

@@ -1,6 +1,6 @@
 -- A store: slots of numbered values, the slot of a number being the number mod the ceiling. Stands for the Rust's HashMap
 -- (outgoing) and BTreeMap (incoming). The calls use it through `get`, `insert` and `remove` alone, whose laws are in proofs/Slots.antt;
--- the rules of the records go over its slots. Numbers less than the ceiling apart have slots of their own. Assumes nothing.
+-- the rules of the records go over its slots. Numbers less than the ceiling apart have slots of their own.
 use Prim.Native.Nat.{ℕ, _%_}
 use mathlib.Core.List.{List}
 use mathlib.Core.Option.{Option, none, some}

@@ -1,5 +1,5 @@
 -- One end of a stream as a plain value: the groups of its record, the fresh one, and a setter for each group.
--- Instants and spans are nanoseconds; no definition adds one to a packet number. Assumes nothing.
+-- Instants and spans are nanoseconds; no definition adds one to a packet number.
 use Prim.Native.Nat.{ℕ, _+_}
 use mathlib.Core.List.{List, []}
 use mathlib.Core.Option.{Option}

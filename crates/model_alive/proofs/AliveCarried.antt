@@ -1,6 +1,5 @@
 -- One piece goes from a fresh end to a fresh end and is read there. The idea: each call is computed once, to an explicit end, and
 -- the rules hold at each end since calls from a fresh stream keep them.
--- Assumes nothing.
 use Prim.Native.Nat.{ℕ, zero, suc, _+_, _^_, _≤_, _<_, min}
 use native.Mathlib.Nat.{le-refl}
 use native.Mathlib.Omega.{arith}

@@ -1,6 +1,5 @@
 -- A due drive that does not fail queues the lowest stored packet. The idea: after such a pass every stored packet waits, so nothing
 -- is in flight; flushing meets the lowest one first, and it fits the window, since no packet is longer than the least window.
--- Assumes nothing.
 use Prim.Native.Nat.{ℕ, zero, suc, _+_, _-_, _%_, _≤_, _<_}
 use native.Mathlib.Nat.{le-refl}
 use native.Mathlib.Decide.{ℕ-discrete}

@@ -1,6 +1,5 @@
 -- A write on a fresh stream is accepted up to the window. The idea: the first piece goes at inflight 0, a second one follows only
 -- a full first one and finds 1,400, a third one follows only a full second one and finds 2,800.
--- Assumes nothing.
 use Prim.Native.Nat.{ℕ, zero, suc, _+_, _-_, _≤_, _<_, min}
 use native.Mathlib.Nat.{le-refl}
 use native.Mathlib.Decide.{decLe}

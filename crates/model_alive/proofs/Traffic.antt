@@ -1,5 +1,5 @@
 -- Runs over a line that carry bytes: 01's example session is computed, and the run of one piece goes by what each of its calls answers
--- (AliveCarried.antt), the histories being made of those answers. Assumes nothing.
+-- (AliveCarried.antt), the histories being made of those answers.
 use Prim.Native.Nat.{ℕ, zero, suc, _≤_}
 use native.Mathlib.Omega.{arith}
 use mathlib.Core.Path.{_≡_, refl, sym, ap, _∙_, subst}

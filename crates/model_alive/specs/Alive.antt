@@ -1,5 +1,5 @@
 -- Facts that keep the definitions alive: a stream that did nothing would break none of the promises on safety, and it is none of
--- these. Statements only: the proofs are proofs/Alive*.antt. Assumes nothing.
+-- these. Statements only: the proofs are proofs/Alive*.antt.
 use Prim.Native.Nat.{ℕ, _≤_, _<_, min}
 use mathlib.Core.Path.{_≡_}
 use mathlib.Core.List.{List, List·Memᴰ}

@@ -1,6 +1,5 @@
 -- The hypotheses of the two-end theorem (`OverALine` of two opened ends, model_ends/specs/TwoEnds.antt) are satisfiable by runs in which bytes written at one
 -- end are read at the other: 01's example session, and one piece of any bytes. Statements only: the proofs are proofs/Traffic.antt.
--- Assumes nothing.
 use Prim.Native.Nat.{ℕ, _≤_}
 use mathlib.Core.Path.{_≡_}
 use mathlib.Core.List.{List, [], _∷_}

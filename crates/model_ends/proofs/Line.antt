@@ -1,6 +1,6 @@
 -- The invariant of two ends over a line, for one direction and for both. The idea: whatever was ever taken, queued or stored says
 -- only what stays true (pieces and acks only grow), so a copy may come at any time; what the receiver has read and holds are the
--- sender's pieces, and what the receiver has not acknowledged the sender still stores. Assumes nothing.
+-- sender's pieces, and what the receiver has not acknowledged the sender still stores.
 use Prim.Native.Nat.{ℕ, _+_, _≤_, _<_}
 use mathlib.Core.Path.{_≡_}
 use mathlib.Core.Logic.{_≢_, _⊎_}

@@ -1,5 +1,5 @@
 -- A delivery keeps the invariant of both directions. A datagram that the other end gave is read back field by field; it brings a
--- piece, an ack that the other end has reached, and no SACK blocks. A refused delivery changes nothing. Assumes nothing.
+-- piece, an ack that the other end has reached, and no SACK blocks. A refused delivery changes nothing.
 use Prim.Native.Nat.{ℕ, _+_, _≤_, _<_}
 use native.Mathlib.Omega.{arith}
 use mathlib.Core.Path.{_≡_, refl, sym, ap, _∙_, subst, subst₂}

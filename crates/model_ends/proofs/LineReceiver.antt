@@ -1,5 +1,5 @@
 -- The receiver's part of the invariant: holding a payload, moving the ack, reading. Each change of the receiver's record keeps
--- `Received`, and a read either reads all that is in order or fills its room. Assumes nothing.
+-- `Received`, and a read either reads all that is in order or fills its room.
 use Prim.Native.Nat.{ℕ, zero, suc, _+_, _-_, _%_, _≤_, _<_, zero-le}
 use native.Mathlib.Nat.{le-refl}
 use native.Mathlib.Decide.{ℕ-discrete, decLt}

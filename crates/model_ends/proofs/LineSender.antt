@@ -1,6 +1,5 @@
 -- The sender's part of the invariant: every small step of an end that sends keeps `OneWay`. What is stored, queued or taken stays
 -- right as pieces are added and the end's own ack grows; a packet leaves the store only where the receiver's ack is past it.
--- Assumes nothing.
 use Prim.Native.Nat.{ℕ, suc, _+_, _-_, _≤_, _<_, zero-le}
 use native.Mathlib.Nat.{le-refl}
 use native.Mathlib.Decide.{ℕ-discrete, decLt}

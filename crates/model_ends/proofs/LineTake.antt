@@ -1,5 +1,5 @@
 -- A take keeps the invariant of both directions: each datagram that it gives is one of the end's. The answer has only their bytes
--- and a segment size; cutting those bytes gives the datagrams back, since all have one length, which is not 0. Assumes nothing.
+-- and a segment size; cutting those bytes gives the datagrams back, since all have one length, which is not 0.
 use Prim.Native.Nat.{ℕ, zero, suc, _≤_, _<_, min, zero-le}
 use native.Mathlib.Nat.{le-refl}
 use native.Mathlib.Omega.{arith}

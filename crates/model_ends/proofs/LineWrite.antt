@@ -1,5 +1,5 @@
 -- A write keeps the invariant of both directions. The pieces that went are what the accepted bytes are when cut at 1,380 bytes: the
--- loop and the cut are compared piece by piece. Assumes nothing.
+-- loop and the cut are compared piece by piece.
 use Prim.Native.Nat.{ℕ, zero, suc, _+_, _≤_}
 use native.Mathlib.Decide.{decLe}
 use native.Mathlib.Omega.{arith}

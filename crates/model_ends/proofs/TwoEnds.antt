@@ -1,6 +1,6 @@
 -- Demand 3, the two-end theorem: its proof. Every call keeps the invariant of both directions (`Both`, in Line.antt); from one
 -- direction follows what is promised of it, where reads alone are run on the receiver to give what is unread in order.
--- That no such read is refused is the invariant of one end (model_rules/proofs/Invariant.antt). Assumes nothing.
+-- That no such read is refused is the invariant of one end (model_rules/proofs/Invariant.antt).
 use Prim.Native.Nat.{ℕ, zero, suc, _-_, _≤_, _<_, zero-le}
 use native.Mathlib.Nat.{le-refl}
 use native.Mathlib.Omega.{arith}

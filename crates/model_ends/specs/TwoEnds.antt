@@ -1,6 +1,6 @@
 -- Demand 3, the two-end theorem: whatever the line loses, repeats, delays or reorders, no byte is lost, shifted or invented.
 -- The statement is `TwoEnds`, at the bottom; above it stand its terms, in 01's words ('What the contracts say', 4). Statements
--- only: the proof is proofs/TwoEnds.antt. Assumes nothing.
+-- only: the proof is proofs/TwoEnds.antt.
 use Prim.Native.Nat.{ℕ, zero, suc, _-_, _≤_, _<_}
 use mathlib.Core.Path.{_≡_}
 use mathlib.Core.List.{List, [], _∷_, _++_, List·Memᴰ}

@@ -1,6 +1,5 @@
 -- What calls from a fresh stream also keep, apart from the invariant: an error is set just when the local side is closed, and
--- only a stream with an error has ended (`ending-after`). The one step that sets an error closes the local side with it. Assumes
--- nothing.
+-- only a stream with an error has ended (`ending-after`). The one step that sets an error closes the local side with it.
 use Prim.Native.Nat.{ℕ, zero, suc, _+_, _-_}
 use mathlib.Core.Path.{_≡_, refl, sym}
 use mathlib.Core.List.{List, [], _∷_}

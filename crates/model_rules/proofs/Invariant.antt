@@ -4,7 +4,7 @@
 -- and its queue entries together are at most 7, and at most 6 while it waits; with nothing left to take, a queued packet is queued
 -- once, was never transmitted and does not wait; and, for the words of the records, seq and the queued numbers fit 32 bits. Calls
 -- other than a read and a take keep the rules with these facts or without them, by the same steps: `more` says whether they are
--- there. Without them the invariant is the rules, for stores of 32 slots (`rules-kept`, `kept-rules`). Assumes nothing.
+-- there. Without them the invariant is the rules, for stores of 32 slots (`rules-kept`, `kept-rules`).
 use Prim.Native.Nat.{ℕ, suc, _+_, _^_, _≤_, _<_}
 use native.Mathlib.Decide.{ℕ-discrete}
 use native.Mathlib.Omega.{arith}

@@ -1,4 +1,4 @@
--- Every call keeps the invariant, and a stream that open accepts starts with it. Assumes nothing.
+-- Every call keeps the invariant, and a stream that open accepts starts with it.
 use Prim.Native.Nat.{ℕ, _^_, _≤_, _<_, zero-le}
 use native.Mathlib.Nat.{le-refl}
 use native.Mathlib.Omega.{arith}

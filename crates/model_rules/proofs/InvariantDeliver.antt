@@ -1,6 +1,6 @@
 -- A delivery keeps the invariant. It acts only with nothing left to take, and runs in parts, each of which leaves it so: SACK
 -- blocks, END, DATA, the header's ack. `Taking` says what the parts pass on: how many state packets there may be, and that the
--- receiver and seq are still those that the tests saw. Assumes nothing.
+-- receiver and seq are still those that the tests saw.
 use Prim.Native.Nat.{ℕ, zero, suc, _+_, _-_, _^_, _≤_, _<_, max, zero-le}
 use native.Mathlib.Omega.{arith}
 use mathlib.Core.Path.{_≡_, refl, _∙_}

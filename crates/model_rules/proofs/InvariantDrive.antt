@@ -1,6 +1,6 @@
 -- A drive keeps the invariant. It starts with nothing left to take, so each queued packet is queued once; settling and timeouts
 -- keep that for the packets still ahead (`Driving`), flushing queues at most one entry a number (`Flushing`), and then the whole
--- queue is left to take. Assumes nothing.
+-- queue is left to take.
 use Prim.Native.Nat.{ℕ, zero, suc, _+_, _-_, _^_, _≤_, _<_, zero-le}
 use native.Mathlib.Nat.{le-refl}
 use native.Mathlib.Omega.{arith}

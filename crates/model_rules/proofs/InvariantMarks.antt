@@ -1,5 +1,5 @@
 -- The steps on a stored packet keep the facts of one end: its marks change (it is lost, queued again or taken), or it is
--- acknowledged and leaves. The sums over the store follow, and transmits plus queue entries stay at most 7. Assumes nothing.
+-- acknowledged and leaves. The sums over the store follow, and transmits plus queue entries stay at most 7.
 use Prim.Native.Nat.{ℕ, zero, suc, _+_, _-_, _^_, _≤_, _<_}
 use native.Mathlib.Nat.{le-refl}
 use native.Mathlib.Omega.{arith}

@@ -1,5 +1,5 @@
 -- A read keeps the invariant. It changes the receiver alone, and stops before ack, which is not held; so the read cursor stays at
--- most ack. Assumes nothing.
+-- most ack.
 use Prim.Native.Nat.{ℕ, zero, suc, _+_, _-_, _<_}
 use native.Mathlib.Decide.{ℕ-discrete}
 use native.Mathlib.Omega.{arith}

@@ -1,5 +1,5 @@
 -- Write and close keep the invariant. Both act only with nothing left to take (`Resting`), and leave it so: a write sends data
--- packets, each new and queued once, and a close queues one state packet. Assumes nothing.
+-- packets, each new and queued once, and a close queues one state packet.
 use Prim.Native.Nat.{ℕ, zero, suc, _+_, _-_, _≤_, _<_}
 use native.Mathlib.Omega.{arith}
 use mathlib.Core.Path.{_≡_}

@@ -1,5 +1,5 @@
 -- The steps that send keep the facts of one end: a state packet is queued, a data packet is sent; and so do another clock, window
--- or estimate. Most of the proof is what a step does to the number of queue entries of a packet. Assumes nothing.
+-- or estimate. Most of the proof is what a step does to the number of queue entries of a packet.
 use Prim.Native.Nat.{ℕ, suc, _+_, _-_, _%_, _^_, _≤_, _<_, zero-le}
 use native.Mathlib.Nat.{le-refl}
 use native.Mathlib.Omega.{arith}

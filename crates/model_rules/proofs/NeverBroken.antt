@@ -1,6 +1,6 @@
 -- Calls from a fresh stream never break a rule of the records, and so no call meets refusal 1 (`never-broken`). The rules follow
 -- from the invariant; where they hold, the first test of each call's list does not, no later one carries refusal 1, and what a
--- call answers when it acts is another outcome. Assumes nothing.
+-- call answers when it acts is another outcome.
 use Prim.Native.Nat.{ℕ}
 use native.Mathlib.Omega.{arith}
 use mathlib.Core.Path.{_≡_, refl, sym, ap, _∙_}

@@ -1,5 +1,5 @@
 -- The ranges of a fresh estimate and of the congestion window: growth and halving keep the window in its range. (That a sample
--- keeps the estimate in its range is crate rtt's `sampled-range`.) Assumes nothing.
+-- keeps the estimate in its range is crate rtt's `sampled-range`.)
 use Prim.Native.Nat.{ℕ, _+_, _/_, _≤_, min, max}
 use native.Mathlib.Omega.{arith}
 use mathlib.Core.Bool.{cond}

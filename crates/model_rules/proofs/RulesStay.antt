@@ -1,6 +1,6 @@
 -- A write, a delivery, a drive and a close keep the rules of the records from any end that keeps them (`rules-stay`): without its further
 -- facts the invariant is the rules, and these calls keep it with or without those. A read and a take do not (`rules-break`): one
--- end for each, computed. Assumes nothing.
+-- end for each, computed.
 use mathlib.Core.Path.{_≡_, refl, sym}
 use mathlib.Core.List.{[], _∷_}
 use mathlib.Core.Option.{none}

@@ -1,6 +1,5 @@
 -- Laws on the blocks of a payload, as a loop over them needs: the next block and the blocks after it, the end, and how many there
 -- are. The idea: any number of steps that covers the bytes left gives the same blocks.
--- Assumes nothing.
 use Prim.Native.Nat.{ℕ, zero, suc, _+_, _-_, _/_, _≤_, _<_}
 use mathlib.Core.Path.{_≡_, refl, sym, ap, _∙_}
 use mathlib.Core.List.{List, [], _∷_}

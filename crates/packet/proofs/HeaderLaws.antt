@@ -1,6 +1,5 @@
 -- Laws on the header: its 20 bytes, what a decode answers, and what an encode answers and leaves in a buffer that is long enough, in
 -- one that is not, and in one that holds just a header. Each is one case of a definition.
--- Assumes nothing.
 use Prim.Native.Nat.{ℕ, _/_, _%_, _≤_, _<_}
 use mathlib.Core.Path.{_≡_, refl, _∙_}
 use mathlib.Core.List.{List, [], _∷_, _++_, append-nil}

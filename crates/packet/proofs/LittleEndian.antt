@@ -1,6 +1,5 @@
 -- Laws on numbers as bytes: the value and the bytes undo each other, by induction on the number of bytes, and a number at a place is
 -- that of the four elements there.
--- Assumes nothing.
 use Prim.Native.Nat.{ℕ, zero, suc, _+_, _*_, _/_, _%_, _^_, _≤_, _<_}
 use mathlib.Core.Path.{_≡_, refl, ap, _∙_}
 use mathlib.Core.List.{List, [], _∷_}

@@ -1,6 +1,5 @@
 -- Encoding and decoding undo each other, as specs/RoundTrip.antt states. Decoding reads each field's bytes back; encoding writes the
 -- four runs of four bytes that decoding read, and the first four bytes are known.
--- Assumes nothing.
 use Prim.Native.Nat.{ℕ, _+_, _≤_}
 use mathlib.Core.Path.{_≡_, ap, _∙_}
 use mathlib.Core.List.{List, _∷_, _++_, append-assoc}

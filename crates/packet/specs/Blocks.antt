@@ -1,4 +1,4 @@
--- The SACK blocks of a payload, all of them and the next one. Assumes nothing.
+-- The SACK blocks of a payload, all of them and the next one.
 use Prim.Native.Nat.{ℕ, zero, suc, _-_, _/_}
 use mathlib.Core.Path.{_≡_}
 use mathlib.Core.List.{List, [], _∷_}

@@ -1,4 +1,4 @@
--- The header: its 20 bytes, what decoding answers, what encoding answers and leaves. Assumes nothing.
+-- The header: its 20 bytes, what decoding answers, what encoding answers and leaves.
 use Prim.Native.Nat.{ℕ, _/_, _%_}
 use mathlib.Core.Path.{_≡_}
 use mathlib.Core.List.{List, _∷_, _++_}

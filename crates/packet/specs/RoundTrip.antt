@@ -1,4 +1,4 @@
--- Encoding and decoding undo each other: what is claimed. The proofs are in proofs/RoundTrip.antt. Assumes nothing.
+-- Encoding and decoding undo each other: what is claimed. The proofs are in proofs/RoundTrip.antt.
 use Prim.Native.Nat.{ℕ, _^_, _≤_, _<_}
 use mathlib.Core.Path.{_≡_}
 use mathlib.Core.List.{List, _++_}

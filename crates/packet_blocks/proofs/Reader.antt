@@ -1,4 +1,4 @@
--- Laws on what is read at a place: a block and the place 8 bytes on, or the end and the same place. Assumes nothing.
+-- Laws on what is read at a place: a block and the place 8 bytes on, or the end and the same place.
 use Prim.Native.Nat.{ℕ, _+_, _<_}
 use mathlib.Core.Path.{_≡_, sym, ap, _∙_}
 use mathlib.Core.List.{List, [], _∷_}

@@ -1,6 +1,6 @@
 -- Every call can be made on records that are an end of the model that keeps the invariant (`make`), and so every list of requests from an
 -- open (`every-run`). A refused call changes nothing; else the answer is the model's, and the end after it is laid out anew over the
--- stores. A read is proofs/EveryRead.antt. Assumes nothing.
+-- stores. A read is proofs/EveryRead.antt.
 use Prim.Native.Nat.{ℕ, _<_}
 use native.Mathlib.Omega.{arith}
 use mathlib.Core.Path.{_≡_, refl, sym, ap, _∙_, subst}

@@ -1,6 +1,6 @@
 -- A read can be made on records that are an end of the model. One that finds nothing changes nothing; one that puts the front of a packet
 -- changes that packet's word alone, since it may be refused and then keeps every number; one that finishes a packet is ready, and the end
--- after it is laid out anew. Only the front of a packet asks how many words there are. Assumes nothing.
+-- after it is laid out anew. Only the front of a packet asks how many words there are.
 use Prim.Native.Nat.{ℕ, suc, _+_, _-_, _%_, _<_}
 use native.Mathlib.Omega.{arith}
 use mathlib.Core.Path.{_≡_, refl, sym, ap, _∙_, subst}

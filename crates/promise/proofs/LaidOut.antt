@@ -1,5 +1,5 @@
 -- Every end of the model that keeps the invariant can be laid out as records: numbers, words and stores that are seen as it, over stores of
--- 01's lengths, in which the bytes past the packets stay (`laid`). Assumes nothing.
+-- 01's lengths, in which the bytes past the packets stay (`laid`).
 use Prim.Native.Nat.{ℕ, _+_, _≤_, _<_}
 use native.Mathlib.Omega.{arith}
 use mathlib.Core.Path.{_≡_, refl}

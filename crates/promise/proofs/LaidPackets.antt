@@ -1,5 +1,5 @@
 -- The two packet stores of an end of the model, laid out: words and bytes that are seen as its stored and its held packets. A slot's word
--- is its packet's, or 0; its bytes stand at the front of its piece. Assumes nothing.
+-- is its packet's, or 0; its bytes stand at the front of its piece.
 use Prim.Native.Nat.{ℕ, suc, _+_, _-_, _*_, _%_, _^_, _≤_, _<_}
 use native.Mathlib.Omega.{arith}
 use mathlib.Core.Path.{_≡_, refl, ap, ap₂, sym, _∙_, subst}

@@ -1,5 +1,5 @@
 -- The send queue of an end of the model, laid out: a word for each entry, and the bytes of its state packets one after the other at the
--- front of the header store. Assumes nothing.
+-- front of the header store.
 use Prim.Native.Nat.{ℕ, suc, _+_, _-_, _*_, _^_, _≤_, _<_}
 use native.Mathlib.Omega.{arith}
 use mathlib.Core.Path.{_≡_, refl, ap, ap₂, sym, _∙_}

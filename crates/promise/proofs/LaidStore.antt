@@ -1,5 +1,5 @@
 -- A lent store with other bytes at the front of each of its pieces, and what stood past them kept: what is cut from it are those bytes,
--- and past them nothing changed. The new store is its pieces joined, all of one length. Assumes nothing.
+-- and past them nothing changed. The new store is its pieces joined, all of one length.
 use Prim.Native.Nat.{ℕ, zero, suc, _+_, _-_, _*_, _≤_, _<_}
 use native.Mathlib.Nat.{mul-le-mul-right, suc-mul}
 use native.Mathlib.Omega.{arith}

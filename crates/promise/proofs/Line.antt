@@ -1,6 +1,5 @@
 -- Two ends on the records go on as the model's two ends: what is seen of each, with its history, after a call is what the model's call
--- leaves (`call-same`), so a list of calls does (`run-same`), and a line on the records is one of the model (`line-same`). Assumes
--- nothing.
+-- leaves (`call-same`), so a list of calls does (`run-same`), and a line on the records is one of the model (`line-same`).
 use mathlib.Core.Path.{_≡_, refl, sym, ap, _∙_, subst}
 use mathlib.Core.Logic.{inl, inr}
 use mathlib.Core.List.{List, [], _∷_}

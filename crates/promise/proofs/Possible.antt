@@ -1,5 +1,5 @@
 -- What two ends of the model do over a line two ends on the records can do: each call is made (EveryCall.antt), answers as the model's and
--- so brings what the model's brings. One piece that the model carries is then carried on the records. Assumes nothing.
+-- so brings what the model's brings. One piece that the model carries is then carried on the records.
 use Prim.Native.Nat.{ℕ, _≤_, min}
 use native.Mathlib.Omega.{arith}
 use mathlib.Core.Path.{_≡_, refl, sym, ap, ap₂, _∙_, subst}

@@ -1,6 +1,6 @@
 -- Reads alone exist at every end that calls came to (`reads-at`). A read of 1,380 has room for a whole packet: it finds nothing at the read
 -- cursor and puts none, or it finishes a packet and the cursor rises. Packets held have numbers below 4,294,967,295, so that ends.
--- What the reads put is then what `two-ends-on-records` says. Assumes nothing.
+-- What the reads put is then what `two-ends-on-records` says.
 use Prim.Native.Nat.{ℕ, zero, suc, _+_, _-_, _≤_, _<_}
 use native.Mathlib.Nat.{le-refl}
 use native.Mathlib.Omega.{arith}

@@ -1,6 +1,6 @@
 -- Demand 2 over any list of calls: its proof. An open hands out records that are laid out and are seen as the model's fresh end; each
 -- contract gives the model's answer on records that are laid out, and keeps them so. That refusal 1 never comes is then the model's
--- `never-broken`. Assumes nothing.
+-- `never-broken`.
 use Prim.Native.Nat.{ℕ, _+_, _<_, _^_}
 use native.Mathlib.Omega.{arith}
 use mathlib.Core.Path.{_≡_, refl, sym, ap, _∙_, subst}

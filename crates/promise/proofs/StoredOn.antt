@@ -1,5 +1,5 @@
 -- A packet that is seen under its number lies in its slot of the lent store (`stored-on`, `held-on`): its word is packet n, and the store has the
--- length that open tested, so the bytes that are seen are the store's own. Assumes nothing.
+-- length that open tested, so the bytes that are seen are the store's own.
 use Prim.Native.Nat.{ℕ, _+_, _-_, _*_, _%_, _≤_, _<_}
 use native.Mathlib.Omega.{arith}
 use mathlib.Core.Path.{_≡_, refl, sym, ap, _∙_, subst}

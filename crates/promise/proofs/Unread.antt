@@ -1,6 +1,6 @@
 -- What is unread in order, as it is seen, is what reads on the records put (`unread-is`). The reads are calls on the receiver like any
 -- others, so the promise holds after them too: the same bytes are accepted, what they put is read, and before the read that puts none
--- nothing is unread. Assumes nothing.
+-- nothing is unread.
 use Prim.Native.Nat.{ℕ, zero, suc, _-_}
 use native.Mathlib.Omega.{arith}
 use mathlib.Core.Path.{_≡_, refl, sym, ap, _∙_, subst}

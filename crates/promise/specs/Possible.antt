@@ -2,7 +2,7 @@
 -- the exported functions; here such events exist: every list of requests is that of some calls from an open (`EveryRun`), whatever two
 -- ends of the model do over a line two ends on the records can do (`EveryLine`), one carries bytes to the other (`Possible`), and wherever
 -- two ends come to, the reads that tell what is unread exist (`EveryReadOut`). Statements only: the proofs are proofs/EveryCall.antt,
--- proofs/Possible.antt and proofs/ReadOut.antt. Assumes nothing.
+-- proofs/Possible.antt and proofs/ReadOut.antt.
 use Prim.Native.Nat.{ℕ, _≤_}
 use mathlib.Core.Path.{_≡_}
 use mathlib.Core.List.{List, [], _∷_, _++_}

@@ -1,6 +1,6 @@
 -- Demand 2 over any list of calls on the records: every answer, and the end that is seen after it, is the model's, and refusal 1 never
 -- comes. The statement is `SameAsModel`, at the bottom; above it stand its terms. A call on the records is what the contract of the
--- exported function says and nothing more (`Did`). Statements only: the proof is proofs/Runs.antt. Assumes nothing.
+-- exported function says and nothing more (`Did`). Statements only: the proof is proofs/Runs.antt.
 use Prim.Native.Nat.{ℕ}
 use mathlib.Core.Path.{_≡_}
 use mathlib.Core.List.{List, [], _∷_}

@@ -2,7 +2,7 @@
 -- that may lose, repeat, delay and reorder datagrams, no byte is lost, shifted or invented. The statement is `TwoEndsOnRecords`, at the
 -- bottom; above it stand its terms, in 01's words ('What the contracts say', 4). What is known of a call is the contract of its exported
 -- function (`Did`, in Runs.antt), and the histories are what the callers saw: bytes lent, counts, buffers and outcomes. Statements only:
--- the proof is proofs/TwoEndsOnRecords.antt. Assumes nothing.
+-- the proof is proofs/TwoEndsOnRecords.antt.
 use Prim.Native.Nat.{ℕ, _+_, _*_, _%_, _≤_, _<_}
 use mathlib.Core.Path.{_≡_}
 use mathlib.Core.List.{List, [], _∷_, _++_, List·Memᴰ}

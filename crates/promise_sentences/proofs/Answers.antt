@@ -1,5 +1,5 @@
 -- Demand 2 in 01's sentences: each from the field of the promise that renders it. What follows from an answer that is the definition's is
--- derived once, for every way to make a call. Assumes nothing.
+-- derived once, for every way to make a call.
 use native.Mathlib.Omega.{arith}
 use mathlib.Core.Path.{_≡_, refl, sym, ap, _∙_, subst}
 use mathlib.Core.Option.{none}

@@ -1,5 +1,5 @@
 -- Demand 1 in 01's sentences: each exported function's contract is its field of `Contracts` word for word, and the sentences follow from what
--- it says. Assumes nothing.
+-- it says.
 use Prim.Native.Nat.{ℕ, _+_, _≤_, _<_}
 use native.Mathlib.Omega.{arith}
 use mathlib.Core.Path.{_≡_, refl, sym, ap, ap₂, _∙_, subst}

@@ -1,6 +1,5 @@
 -- Demand 1 in 01's sentences for the C functions, from `ContractsOfC`. A call on numbers that are known is the call on the records, whose
--- sentences are those of Calls.antt; its answer as numbers says the same, since numbers that are known come back as they were. Assumes
--- nothing.
+-- sentences are those of Calls.antt; its answer as numbers says the same, since numbers that are known come back as they were.
 use Prim.Native.Nat.{ℕ, zero, suc, _+_, _≤_, _<_}
 use native.Mathlib.Omega.{arith}
 use mathlib.Core.Path.{_≡_, refl, sym, ap, _∙_}

@@ -1,5 +1,4 @@
--- What demand 3 is about: what a history counts is computed, and a call that 01 allows on the line is one that the theorems allow. Assumes
--- nothing.
+-- What demand 3 is about: what a history counts is computed, and a call that 01 allows on the line is one that the theorems allow.
 use Prim.Native.Nat.{ℕ, suc}
 use native.Mathlib.Omega.{arith}
 use mathlib.Core.Path.{_≡_, refl, ap}

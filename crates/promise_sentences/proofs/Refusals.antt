@@ -1,5 +1,5 @@
 -- 'Seventeen refusals, in checking order': each sentence from the numbers that `RefusalsInOrder` has for the call. Of a list of tests: the
--- first that holds is answered, an answer is one of their numbers, and where none holds there is none. Assumes nothing.
+-- first that holds is answered, an answer is one of their numbers, and where none holds there is none.
 use Prim.Native.Nat.{ℕ, zero, suc, _<_}
 use native.Mathlib.Omega.{arith}
 use mathlib.Core.Path.{_≡_, refl, sym, ap, _∙_, subst}

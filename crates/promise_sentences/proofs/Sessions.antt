@@ -1,4 +1,4 @@
--- 'The session program' in 01's sentences, from the contracts of `fresh_end`, `open_ends` and `run_one`. Assumes nothing.
+-- 'The session program' in 01's sentences, from the contracts of `fresh_end`, `open_ends` and `run_one`.
 use Prim.Native.Nat.{ℕ}
 use mathlib.Core.Path.{_≡_, refl, _∙_}
 use mathlib.Core.Bool.{false}

@@ -1,5 +1,5 @@
 -- Demand 3 in 01's sentences: each from the field of the promise that renders it. What all promises have in common is derived once, of
--- lists; the rest says where the lists come from. Assumes nothing.
+-- lists; the rest says where the lists come from.
 use Prim.Native.Nat.{ℕ, _+_, _*_, _%_, _≤_, _<_}
 use mathlib.Core.Path.{_≡_, refl, sym, ap, _∙_}
 use mathlib.Core.List.{List, [], _++_, List·Memᴰ}

@@ -1,7 +1,7 @@
 -- Demand 2 in the sentences of 01, 'What the contracts say', 1 and 2, refusal 1 and 'Added by design': after every list of calls from an
 -- open the numbers are those of the definition (`StreamNumbers`), the next call answers it (`Answering`), refusal 1 does not come, and look shows
 -- the next datagram (`Shows`); on the records, from C, and with the ways mixed. Each sentence follows from a field of the promise that
--- renders it. Statements only: the proofs are proofs/Answers.antt. Assumes nothing.
+-- renders it. Statements only: the proofs are proofs/Answers.antt.
 use Prim.Native.Nat.{ℕ, _+_, _≤_, _<_}
 use mathlib.Core.Path.{_≡_}
 use mathlib.Core.List.{List, []}

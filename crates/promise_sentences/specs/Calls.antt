@@ -1,7 +1,7 @@
 -- Demand 1 in the sentences of 01, of each exported function: it requires nothing, and its `ensures` entails the sentences that 01 has for
 -- the call (`Promises`). Each follows from the call's field of `Contracts` (promise/specs/Contracts.antt), so a contract that says less,
 -- or a field that is left out, no longer gives them. `x` are the parameters, `y` what they are at the end, `r` is the result. Statements
--- only: the proofs are proofs/Calls.antt. Assumes nothing.
+-- only: the proofs are proofs/Calls.antt.
 use Prim.Native.Nat.{ℕ, _+_, _≤_, _<_}
 use mathlib.Core.Path.{_≡_}
 use mathlib.Core.List.{List, [], _∷_}

@@ -1,6 +1,6 @@
 -- Demand 1 in 01's sentences for the C functions: as in Calls.antt, each from the function's field of `ContractsOfC`
 -- (promise_ways/specs/Contracts.antt), in the numbers that a caller in C or Rust has. Numbers that stand for no error, close state or flag
--- (`isStrange`) are broken records. Statements only: the proofs are proofs/CallsFromC.antt. Assumes nothing.
+-- (`isStrange`) are broken records. Statements only: the proofs are proofs/CallsFromC.antt.
 use Prim.Native.Nat.{_+_, _≤_, _<_}
 use mathlib.Core.Path.{_≡_}
 use mathlib.Core.List.{_++_}

@@ -1,7 +1,7 @@
 -- What demand 3 is about, in the sentences of 01, 'What the contracts say', 4, and of call 5: which bytes, packets and numbers a history has
 -- after a call (`HistoryCounts` on the records and from C, `HistoryCountsInModel`), how a list goes on (`GoesOn`), and which lists of calls
 -- are over a line (`AnyLine`, `AnyLineFromC`, `AnyMixedLine`, `AnyLineInModel`): all of those that 01 allows, so that the two-end theorems
--- leave none out. Statements only: the proofs are proofs/Histories.antt. Assumes nothing.
+-- leave none out. Statements only: the proofs are proofs/Histories.antt.
 use Prim.Native.Nat.{ℕ, suc, _<_}
 use mathlib.Core.Path.{_≡_}
 use mathlib.Core.List.{List, [], _∷_, _++_, List·Memᴰ}

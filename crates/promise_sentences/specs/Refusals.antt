@@ -2,7 +2,7 @@
 -- its number, that it returns no other number, and that it is not refused where none applies (`InOrder`); what a read answers by the
 -- stream's error, and what header coding refuses.
 -- Each follows from a field of `RefusalsInOrder` (model/specs/Order.antt); that of open on the records is stated here. Statements only: the
--- proofs are proofs/Refusals.antt. Assumes nothing.
+-- proofs are proofs/Refusals.antt.
 use Prim.Native.Nat.{ℕ, _<_}
 use mathlib.Core.Path.{_≡_}
 use mathlib.Core.List.{List, [], _∷_, map, List·Memᴰ}

@@ -1,5 +1,5 @@
 -- 'The session program' in 01's sentences: the ends that it runs and a turn of it, from the contracts of `fresh_end`, `open_ends` and
--- `run_one` word for word (`FreshEnd`, `OpensEnds` and `RunOne`, session_turn/proofs/Contracts.antt). Statements only: the proofs are proofs/Sessions.antt. Assumes nothing.
+-- `run_one` word for word (`FreshEnd`, `OpensEnds` and `RunOne`, session_turn/proofs/Contracts.antt). Statements only: the proofs are proofs/Sessions.antt.
 use Prim.Native.Nat.{_≤_, _<_}
 use mathlib.Core.Path.{_≡_}
 use mathlib.Core.List.{[]}

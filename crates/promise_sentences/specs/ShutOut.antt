@@ -1,7 +1,7 @@
 -- 01, 'What the contracts say', 2: "Shut out by demand 2: refusing every datagram, answering waiting to all writes, answering done or none
 -- with packets queued, queuing everything in the first drive and idling later, inventing inflight or totals." What an answer says of the
 -- end before the call so that it is none of these (`LiveAnswer`), each from a field of `NotDead` (model/specs/NotDead.antt). Statements
--- only: the proof is proofs/ShutOut.antt. Assumes nothing.
+-- only: the proof is proofs/ShutOut.antt.
 use Prim.Native.Nat.{ℕ, _+_, _*_, _%_, _^_, _≤_, _<_, min}
 use mathlib.Core.Path.{_≡_}
 use mathlib.Core.List.{List, [], _∷_, _++_}

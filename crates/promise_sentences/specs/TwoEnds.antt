@@ -1,7 +1,7 @@
 -- Demand 3 in the sentences of 01, 'What the contracts say', 4, over plain byte sequences and numbers (`Carries`, `Lies`), after every list
 -- of calls on two ends over a line: in the model, on the records, from C, and with the ways mixed. Each sentence follows from a field of the
 -- promise that renders it, so a promise that lost the field, or says less there, no longer gives its sentence. Statements only: the proofs
--- are proofs/TwoEnds.antt. Assumes nothing.
+-- are proofs/TwoEnds.antt.
 use Prim.Native.Nat.{ℕ, _+_, _*_, _%_, _≤_, _<_}
 use mathlib.Core.Path.{_≡_}
 use mathlib.Core.List.{List, [], _++_, List·Memᴰ}

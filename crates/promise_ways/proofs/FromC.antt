@@ -1,6 +1,6 @@
 -- Demands 2 and 3 from C: each call on numbers that stand for records is the call on those records (`one`), and what it hands back stands
 -- for the records after it, with no strange byte; so a list of calls from C is a list of calls on the records, and their theorems hold of
--- it. Assumes nothing.
+-- it.
 use Prim.Native.Nat.{ℕ}
 use native.Mathlib.Omega.{arith}
 use mathlib.Core.Path.{_≡_, refl, ap, sym, _∙_}

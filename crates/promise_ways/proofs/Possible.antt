@@ -1,6 +1,6 @@
 -- Calls on the records are calls from C (`did-plain`): numbers without a strange byte stand for records, and the step of a call on these,
 -- as numbers, satisfies the contract of the C function and stands for the step again. So calls that exist on the records exist from C, and
--- reads alone among them (`every-read-out-from-c`). Assumes nothing.
+-- reads alone among them (`every-read-out-from-c`).
 use Prim.Native.Nat.{ℕ}
 use mathlib.Core.Path.{_≡_, refl, sym, ap, ap₂, _∙_, subst}
 use mathlib.Core.Bool.{true, false, true≢false}

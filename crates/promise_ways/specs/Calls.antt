@@ -1,5 +1,5 @@
 -- Calls as a caller in C or Rust makes them, on plain numbers, and what they are on the records. What is known of such a call is the
--- contract of the C function and nothing more (`PlainDid`; that it is that contract word for word is Contracts.antt). Assumes nothing.
+-- contract of the C function and nothing more (`PlainDid`; that it is that contract word for word is Contracts.antt).
 use Prim.Native.Nat.{ℕ, _-_}
 use mathlib.Core.Path.{_≡_}
 use mathlib.Core.Bool.{true, cond}

@@ -2,7 +2,7 @@
 -- stores and buffers that it was lent and those that it left, its `ensures` is `PlainDid`, and it requires nothing. So a C function that
 -- says less, or asks for more, is noticed here; `udx_look`, `udx_open`, header coding and the layout functions are beside the six, each with
 -- its own definition. `x` are the parameters, `y` what they are at the end, `r` is the result. Statements only: the proof is
--- proofs/Contracts.antt. Assumes nothing.
+-- proofs/Contracts.antt.
 use mathlib.Core.Path.{_≡_}
 use mathlib.Core.List.{[], _++_}
 use lib.ListN.{replicate}

@@ -1,6 +1,6 @@
 -- Demands 2 and 3 for callers in C and Rust: for every list of calls from `udx_open` in which each call is handed the numbers, words and
 -- stores that the one before it left. The statements are `SameFromC` and `TwoEndsFromC`; they are those of the crate `promise`, of what
--- such callers saw. Statements only: the proofs are proofs/FromC.antt. Assumes nothing.
+-- such callers saw. Statements only: the proofs are proofs/FromC.antt.
 use Prim.Native.Nat.{ℕ}
 use mathlib.Core.Path.{_≡_}
 use mathlib.Core.List.{List, [], _∷_}

@@ -1,7 +1,7 @@
 -- Demands 2 and 3 for lists that mix the ways to make a call: on the same end, calls of crate `udx`, calls with the totals lent (each is a
 -- call on the records, LentTotals.antt) and calls from C, in any order, opened in either way. A call from C is handed any numbers that stand
 -- for the records of that moment. Such a list is a list of calls on the records, so their promises hold after it: `SameMixed` and
--- `TwoEndsMixed`. `Crossing` says that such numbers can always be had. Statements only: the proofs are proofs/Mixed.antt. Assumes nothing.
+-- `TwoEndsMixed`. `Crossing` says that such numbers can always be had. Statements only: the proofs are proofs/Mixed.antt.
 use Prim.Native.Nat.{ℕ}
 use mathlib.Core.Path.{_≡_}
 use mathlib.Core.Bool.{false}

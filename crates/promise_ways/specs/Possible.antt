@@ -1,7 +1,7 @@
 -- The hypotheses of the theorems from C are satisfiable: there are numbers, words and stores after each call that satisfy the contracts of
 -- the C functions, for every list of requests (`EveryRunFromC`), for whatever two ends of the model do over a line (`EveryLineFromC`), for
 -- bytes that one end carries to the other (`PossibleFromC`), and for the reads that tell what is unread (`EveryReadOutFromC`). The same as
--- promise/specs/Possible.antt, on plain numbers. Statements only: the proofs are proofs/Possible.antt. Assumes nothing.
+-- promise/specs/Possible.antt, on plain numbers. Statements only: the proofs are proofs/Possible.antt.
 use Prim.Native.Nat.{ℕ, _≤_}
 use mathlib.Core.Path.{_≡_}
 use mathlib.Core.List.{List, [], _∷_, _++_}

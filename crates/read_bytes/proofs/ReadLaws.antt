@@ -1,6 +1,6 @@
 -- A read on the records against the model: a packet's bytes, the model's read by cases, and the loop. What was put so far, joined with
 -- what the model has still to read, is the model's whole read; every turn passes one number below top, so that the model's 32 packets
--- are enough. Assumes nothing.
+-- are enough.
 use Prim.Native.Nat.{ℕ, zero, suc, _+_, _-_, _*_, _%_, _≤_, _<_}
 use native.Mathlib.Numerals.{add-one}
 use native.Mathlib.Omega.{arith}

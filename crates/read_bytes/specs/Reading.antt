@@ -1,4 +1,4 @@
--- What a read does to the receiving group and to the caller's buffer. Assumes nothing.
+-- What a read does to the receiving group and to the caller's buffer.
 use Prim.Native.Nat.{ℕ, _+_, _-_, _%_, _^_, _≤_, _<_}
 use mathlib.Core.Path.{_≡_}
 use mathlib.Core.List.{List}

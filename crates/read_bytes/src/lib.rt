@@ -51,7 +51,8 @@ fn put_next(buf: &mut [u8], at: usize, incoming: &[u8], p: Held, count: u32)
 // is full then.
 fn read_front(held: &mut [u64; 32], incoming: &[u8], buf: &mut [u8], at: usize, p: Held)
     requires { ⌜ CanPut p (now incoming) (now buf) at (length (now buf) - at) ⌝ }
-    ensures { λ _. ⌜ Front p (now (incoming .entry)) at (now (held .entry)) (now (buf .entry)) (now (held .exit)) (now (buf .exit)) ⌝ }
+    ensures { λ _. ⌜ Front p (now (incoming .entry)) at (now (held .entry)) (now (buf .entry)) (now (held .exit))
+        (now (buf .exit)) ⌝ }
 {
     let room = (buf.len() - at) as u32;
     let q = Held {
@@ -68,7 +69,8 @@ fn read_front(held: &mut [u64; 32], incoming: &[u8], buf: &mut [u8], at: usize, 
 // word of a finished packet stays: with the read cursor past its number it is no packet any more.
 pub fn read_next(r: Receiver, held: &mut [u64; 32], incoming: &[u8], buf: &mut [u8]) -> Read
     requires { ⌜ Readable r (now held) (now incoming) ⌝ }
-    ensures { λ a. ⌜ HasRead r (now (held .entry)) (now (incoming .entry)) (now (buf .entry)) a (now (held .exit)) (now (buf .exit)) ⌝ }
+    ensures { λ a. ⌜ HasRead r (now (held .entry)) (now (incoming .entry)) (now (buf .entry)) a (now (held .exit))
+        (now (buf .exit)) ⌝ }
 {
     let size = buf.len();
     let mut s = r;

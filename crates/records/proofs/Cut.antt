@@ -1,5 +1,5 @@
 -- A store cut into pieces of z bytes: a piece has as many bytes as are asked for, what is put at the start of a piece is there, and it
--- changes no other piece and nothing past it. Two pieces do not overlap, as (j + 1) z ≤ i z for j < i. Assumes nothing.
+-- changes no other piece and nothing past it. Two pieces do not overlap, as (j + 1) z ≤ i z for j < i.
 use Prim.Native.Nat.{ℕ, zero, suc, _+_, _-_, _*_, _≤_, _<_}
 use native.Mathlib.Nat.{mul-le-mul-right, suc-mul}
 use native.Mathlib.Omega.{arith}

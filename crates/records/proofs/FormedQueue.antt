@@ -1,5 +1,5 @@
 -- How the queue is laid out: the test `formedQueue` says what the facts `QueueFormed` say, and a pushed entry, the end of a drive and
--- taken entries keep them. Only the number of state packets asks for more than arithmetic. Assumes nothing.
+-- taken entries keep them. Only the number of state packets asks for more than arithmetic.
 use Prim.Native.Nat.{ℕ, _+_, _-_, _<_}
 use native.Mathlib.Numerals.{add-one}
 use native.Mathlib.Omega.{arith}

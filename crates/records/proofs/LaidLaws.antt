@@ -1,5 +1,4 @@
 -- `LaidReceiver` and the test `formedReceiver` mean the same: callers have tested the one, and the contracts here ask and give the other.
--- Assumes nothing.
 use Prim.Native.Nat.{_+_}
 use mathlib.Core.Path.{_≡_}
 use mathlib.Core.Bool.{true}

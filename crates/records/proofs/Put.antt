@@ -1,5 +1,5 @@
 -- What stands in a store after some bytes were put into it: as many bytes as before, those that were put at their place, and the old
--- ones before and after it. The store is two lists joined, and a part of it lies in one of them. Assumes nothing.
+-- ones before and after it. The store is two lists joined, and a part of it lies in one of them.
 use Prim.Native.Nat.{ℕ, _+_, _-_, _≤_}
 use native.Mathlib.Omega.{arith}
 use mathlib.Core.Path.{_≡_, ap, sym, _∙_}

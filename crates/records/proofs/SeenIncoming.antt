@@ -1,5 +1,5 @@
 -- The incoming store as it is seen: what `get` finds in it, and what a packet that is held, a read offset that moves and a packet that
--- is finished are to it. Instances of the laws of SeenSlots, for the words and the store of held packets. Assumes nothing.
+-- is finished are to it. Instances of the laws of SeenSlots, for the words and the store of held packets.
 use Prim.Native.Nat.{ℕ, zero, suc, _+_, _-_, _*_, _%_, _≤_, _<_}
 use native.Mathlib.Omega.{arith}
 use mathlib.Core.Path.{_≡_, refl, ap, _∙_}

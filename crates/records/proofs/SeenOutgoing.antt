@@ -1,5 +1,5 @@
 -- The outgoing store as it is seen: what `get` finds in it, and what a new packet, other marks, a packet that leaves and a settled
--- number are to it. Instances of the laws of SeenSlots, for the words and the store of stored packets. Assumes nothing.
+-- number are to it. Instances of the laws of SeenSlots, for the words and the store of stored packets.
 use Prim.Native.Nat.{ℕ, suc, _+_, _*_, _%_, _≤_, _<_}
 use native.Mathlib.Omega.{arith}
 use mathlib.Core.Path.{_≡_, refl, ap, ap₂, _∙_}

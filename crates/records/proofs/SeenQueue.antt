@@ -1,6 +1,5 @@
 -- The send queue as it is seen: how many entries and state packets it has, and what a pushed entry, the end of a drive and taken
 -- entries are to it. By induction on the words; the bytes of the queued state packets lie below the place of the next one.
--- Assumes nothing.
 use Prim.Native.Nat.{ℕ, suc, _+_, _-_, _*_, _≤_, _<_}
 use native.Mathlib.Numerals.{add-one}
 use native.Mathlib.Omega.{arith}

@@ -1,6 +1,6 @@
 -- The slots of either store, seen through a window of numbers: slot i shows its cell where the cell's number is of the window and of
 -- that slot. What `get` finds there, and when a change of cells or window is an `insert`, a `remove` or no change; once, for any cell.
--- Two slots are equal where every number has the same value in both. Assumes nothing.
+-- Two slots are equal where every number has the same value in both.
 use Prim.Native.Nat.{ℕ, suc, _+_, _%_, _≤_, _<_}
 use native.Mathlib.Omega.{arith}
 use mathlib.Core.Path.{_≡_, refl, ap, ap₂, sym, _∙_}

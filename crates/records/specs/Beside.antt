@@ -1,6 +1,6 @@
 -- The bytes of the lent stores that are no packet's. 01, 'What the contracts say': "store bytes are equations in the call's inputs, for
 -- refused calls too; a slot without a packet holds anything". Of a slot with a packet `seen` says the packet's bytes; those past them are
--- as they were. A state packet has all bytes of its piece. Assumes nothing.
+-- as they were. A state packet has all bytes of its piece.
 use Prim.Native.Nat.{ℕ, _-_, _<_}
 use mathlib.Core.Path.{_≡_}
 use mathlib.Core.List.{List}

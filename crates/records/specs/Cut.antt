@@ -1,4 +1,4 @@
--- A lent store cut into pieces of equal size. Assumes nothing.
+-- A lent store cut into pieces of equal size.
 use Prim.Native.Nat.{ℕ, _*_}
 use mathlib.Core.List.{List, _++_}
 use lib.ListN.{take, drop, replicate}

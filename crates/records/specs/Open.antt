@@ -1,4 +1,4 @@
--- What opening answers and hands out. Assumes nothing.
+-- What opening answers and hands out.
 use Prim.Native.Nat.{ℕ, _+_, _%_, _^_}
 use mathlib.Core.Path.{_≡_}
 use mathlib.Core.List.{List, _∷_}

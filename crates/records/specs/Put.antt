@@ -1,4 +1,4 @@
--- A store with the bytes from a place on replaced by others. Assumes nothing.
+-- A store with the bytes from a place on replaced by others.
 use Prim.Native.Nat.{ℕ, _+_}
 use mathlib.Core.List.{List, _++_}
 use lib.ListN.{length, take, drop}

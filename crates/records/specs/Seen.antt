@@ -1,5 +1,5 @@
 -- What the records and the lent words and stores mean: the end of the model that they are (`seen`), and the rules that they keep
--- beside 01's because of how they are laid out (`formed`). Assumes nothing.
+-- beside 01's because of how they are laid out (`formed`).
 use Prim.Native.Nat.{ℕ, suc, _+_, _-_, _%_, _≤_}
 use mathlib.Core.Path.{_≡_}
 use mathlib.Core.List.{List, [], _∷_}

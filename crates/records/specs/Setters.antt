@@ -1,4 +1,4 @@
--- A stream, and what is lent to its calls, with one part changed. Assumes nothing.
+-- A stream, and what is lent to its calls, with one part changed.
 use Prim.Native.Nat.{ℕ}
 use mathlib.Core.List.{List}
 use Rattle.records.specs.declared.Queue.{Queue}

@@ -1,4 +1,4 @@
--- A list made by a function of the place. Assumes nothing.
+-- A list made by a function of the place.
 use Prim.Native.Nat.{ℕ, zero, suc}
 use mathlib.Core.List.{List, [], _∷_}
 

@@ -126,7 +126,8 @@ pub fn open(
     incoming: &[u8],
     headers: &[u8],
 ) -> Opened
-    ensures { λ r. ⌜ Opens local remote segments (clock .0) (now (outgoing .entry)) (now (incoming .entry)) (now (headers .entry)) r ⌝ }
+    ensures { λ r. ⌜ Opens local remote segments (clock .0) (now (outgoing .entry)) (now (incoming .entry))
+        (now (headers .entry)) r ⌝ }
 {
     if outgoing.len() != OUTGOING_STORE {
         return refused(Refusal::BrokenRecords);

@@ -1,4 +1,4 @@
--- What a copy into a part of a slice, and a part of a slice, are in the terms of the contracts. Assumes nothing.
+-- What a copy into a part of a slice, and a part of a slice, are in the terms of the contracts.
 use Prim.Native.Nat.{ℕ, _+_, _-_, _≤_}
 use native.Mathlib.Omega.{arith}
 use mathlib.Core.Path.{_≡_, refl, ap, _∙_}

@@ -33,7 +33,8 @@ fn put_both(dst: &mut [u8], at: usize, h: Header, payload: &[u8])
 // Packet h.seq, in its slot of the outgoing store (Packet::new).
 pub fn put_packet(outgoing: &mut [u8], h: Header, payload: &[u8])
     requires { ⌜ (length (now outgoing) ≡ 44_800) × (length (now payload) ≤ 1_380) ⌝ }
-    ensures { λ _. ⌜ now (outgoing .exit) ≡ put (now (outgoing .entry)) (h .seq % 32 * 1_400) (headerBytes h ++ now (payload .entry)) ⌝ }
+    ensures { λ _. ⌜ now (outgoing .exit) ≡ put (now (outgoing .entry)) (h .seq % 32 * 1_400)
+        (headerBytes h ++ now (payload .entry)) ⌝ }
 {
     let at = (h.seq % 32) as usize * OUTGOING_SLOT;
     put_both(outgoing, at, h, payload);

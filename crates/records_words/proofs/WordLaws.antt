@@ -1,5 +1,5 @@
 -- Words and the packets and entries that they say undo each other where each field is in its range, and a zero word is no packet.
--- Each word is n 2^32 + r with r below 2^32, and r is taken apart over plain numbers. Assumes nothing.
+-- Each word is n 2^32 + r with r below 2^32, and r is taken apart over plain numbers.
 use Prim.Native.Nat.{ℕ, _+_, _-_, _*_, _/_, _%_, _^_, _<_, _≤_}
 use native.Mathlib.Omega.{arith}
 use mathlib.Core.Path.{_≡_, refl, ap, _∙_, sym}

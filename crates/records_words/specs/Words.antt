@@ -1,5 +1,5 @@
 -- Packets and queue entries as words of lent arrays: what a word says, and the word of a packet. Only this file and src/lib.rt know
--- the bits; that each undoes the other is in proofs/WordLaws.antt. Assumes nothing.
+-- the bits; that each undoes the other is in proofs/WordLaws.antt.
 use Prim.Native.Nat.{ℕ, _+_, _-_, _*_, _/_, _%_, _^_}
 use mathlib.Core.Bool.{Bool, cond, _&&_, not}
 use mathlib.Core.List.{List}

@@ -159,7 +159,8 @@ fn sent_time(p: Sent) -> u64
 
 // Puts a packet into the slot of its number.
 pub fn put_sent(sent: &mut [u64; 64], p: Sent)
-    ensures { λ _. ⌜ now (sent .exit) ≡ set (set (now (sent .entry)) (p .number % 32) (sentWord p)) (32 + p .number % 32) (sentTime p) ⌝ }
+    ensures { λ _. ⌜ now (sent .exit) ≡ set (set (now (sent .entry)) (p .number % 32) (sentWord p))
+        (32 + p .number % 32) (sentTime p) ⌝ }
 {
     let i = slot(p.number);
     let w = sent_word(p);
@@ -257,7 +258,8 @@ pub fn get_entry(queue: &[u64; 128], i: usize) -> Entry
 // The word in the slot of the entry's number has its number and its length.
 pub fn same_packet(queue: &[u64; 128], i: usize, sent: &[u64; 64]) -> bool
     requires { ⌜ i < 128 ⌝ }
-    ensures { λ r. ⌜ r ≡ samePacket (sentIn (now (sent .entry)) (entryOf (getD (now (queue .entry)) i 0) .number % 32)) (entryOf (getD (now (queue .entry)) i 0)) ⌝ }
+    ensures { λ r. ⌜ r ≡ samePacket (sentIn (now (sent .entry)) (entryOf (getD (now (queue .entry)) i 0) .number % 32))
+        (entryOf (getD (now (queue .entry)) i 0)) ⌝ }
 {
     let w = queue[i];
     let at = slot(high(w));

@@ -1,4 +1,4 @@
--- The round-trip estimate of RFC 6298, sections 2.2 to 2.4, in nanoseconds, with 01's roundings. Assumes nothing.
+-- The round-trip estimate of RFC 6298, sections 2.2 to 2.4, in nanoseconds, with 01's roundings.
 use Prim.Native.Nat.{ℕ, _+_, _-_, _*_, _/_, _^_, _≤_, _<_, max}
 use mathlib.Core.Path.{_≡_}
 use mathlib.Core.Bool.{cond}

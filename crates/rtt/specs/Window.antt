@@ -1,4 +1,4 @@
--- The congestion window: growth and halving. Assumes nothing.
+-- The congestion window: growth and halving.
 use Prim.Native.Nat.{ℕ, _+_, _/_, min, max}
 use mathlib.Core.Bool.{cond}
 use lib.Dec.{ltb}

@@ -1,4 +1,4 @@
--- What the code of refusal 1 finds is its test: the lengths, then the rules. Assumes nothing.
+-- What the code of refusal 1 finds is its test: the lengths, then the rules.
 use mathlib.Core.Path.{_≡_, sym}
 use mathlib.Core.Bool.{true, false}
 use Rattle.records.specs.declared.Stream.{Stream}

@@ -32,7 +32,11 @@ pub fn broken(
     incoming: &[u8],
     headers: &[u8],
 ) -> bool
-    ensures { λ r. ⌜ (r ≡ brokenRecords s t (lent (now (sent .entry)) (now (held .entry)) (now (queue .entry)) (now (outgoing .entry)) (now (incoming .entry)) (now (headers .entry)))) × (length (now (queue .entry)) ≡ 128) ⌝ }
+    ensures { λ r. ⌜
+        (r ≡ brokenRecords s t
+        (lent (now (sent .entry)) (now (held .entry)) (now (queue .entry)) (now (outgoing .entry))
+        (now (incoming .entry)) (now (headers .entry))))
+        × (length (now (queue .entry)) ≡ 128) ⌝ }
 {
     // Never so: an array has its length.
     if word_count(queue) != 128 {

@@ -1,5 +1,5 @@
 -- Tests and sums over the numbers from n to below e, as a loop that goes up computes them: the first test that fails ends it, and a sum so
--- far together with the rest is the whole. Assumes nothing.
+-- far together with the rest is the whole.
 use Prim.Native.Nat.{ℕ, suc, _+_, _-_, _<_, _≤_}
 use native.Mathlib.Numerals.{add-one}
 use native.Mathlib.Nat.{add-assoc, add-zero, zero-add}

@@ -1,5 +1,4 @@
 -- The pass over the held packets, one packet at a time, and the receiver's numbers.
--- Assumes nothing.
 use Prim.Native.Nat.{ℕ, _+_, _-_, _%_, _<_, _≤_}
 use native.Mathlib.Omega.{arith}
 use mathlib.Core.Path.{_≡_, refl, ap, _∙_, sym}

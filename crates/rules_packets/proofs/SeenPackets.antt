@@ -1,5 +1,5 @@
 -- The stored and the held packets: the rules of the words are the model's rules of what is seen, whatever the stores hold. Both stores are
--- read as proofs/SeenStore.antt says, and a piece has the length that its word says (`cut-length`). Assumes nothing.
+-- read as proofs/SeenStore.antt says, and a piece has the length that its word says (`cut-length`).
 use Prim.Native.Nat.{ℕ, _-_, _%_}
 use mathlib.Core.Path.{_≡_, sym, ap, _∙_}
 use mathlib.Core.List.{List}

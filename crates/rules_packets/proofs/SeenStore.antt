@@ -1,6 +1,6 @@
 -- A store as it is seen in words: slot i holds a value where the word there has a number in a range, a number of that slot, and is marked
 -- as there. What is found under a number (`found`), and that tests and sums over the slots go over the numbers of the range
--- (`every-seen`, `sum-seen`). Said once for stored and for held packets. Assumes nothing.
+-- (`every-seen`, `sum-seen`). Said once for stored and for held packets.
 use Prim.Native.Nat.{ℕ, zero, suc, _+_, _-_, _%_, _≤_, _<_}
 use native.Mathlib.Decide.{ℕ-discrete}
 use native.Mathlib.Omega.{arith}

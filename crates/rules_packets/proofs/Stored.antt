@@ -1,6 +1,5 @@
 -- The pass over the stored packets: what is known at each number of it (`Going`), and that it stays known, packet or not, until a packet
 -- breaks a rule.
--- Assumes nothing.
 use Prim.Native.Nat.{ℕ, _+_, _-_, _*_, _%_, _<_, _≤_}
 use native.Mathlib.Omega.{arith}
 use native.Mathlib.Nat.{zero-add}

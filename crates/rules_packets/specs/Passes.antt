@@ -1,5 +1,4 @@
 -- What the passes over the packets find, piece by piece: the rules of one packet, and what is known after a whole pass.
--- Assumes nothing.
 use Prim.Native.Nat.{ℕ, _-_}
 use mathlib.Core.Path.{_≡_}
 use mathlib.Core.List.{List}

@@ -1,5 +1,4 @@
 -- The pass over the queue's entries: what is known at each of them (`Going`), and that it stays known, state packet, stored packet or any other.
--- Assumes nothing.
 use Prim.Native.Nat.{ℕ, _+_, _%_, _<_, _≤_}
 use native.Mathlib.Numerals.{add-one}
 use native.Mathlib.Nat.{zero-add, add-zero}

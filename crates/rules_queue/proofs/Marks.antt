@@ -1,5 +1,5 @@
 -- Distinct numbers by marks: with one mark for each slot, the numbers of a window of 32 are distinct just if none finds its mark set by
--- an earlier one. Assumes nothing.
+-- an earlier one.
 use Prim.Native.Nat.{ℕ, _+_, _%_, _≤_}
 use native.Mathlib.Omega.{arith}
 use mathlib.Core.Path.{_≡_, refl, ap, _∙_}

@@ -1,5 +1,5 @@
 -- The queue: the rules of its words are the layout's and the model's of the entries seen. The entries of some words are as many, and their
--- state packets and packet numbers are those of the words; while some are left to take they are just those left. Assumes nothing.
+-- state packets and packet numbers are those of the words; while some are left to take they are just those left.
 use Prim.Native.Nat.{ℕ, suc, _+_, _%_, _≤_, _<_}
 use native.Mathlib.Omega.{arith}
 use mathlib.Core.Path.{_≡_, refl, sym, ap₂, _∙_}

@@ -1,5 +1,5 @@
 -- 01's rules of the queue over the numbers of the records and its words. No byte of a store is looked at. That it is just what the
--- model's rules say of what is seen is proofs/SeenQueue.antt. Assumes nothing.
+-- model's rules say of what is seen is proofs/SeenQueue.antt.
 use Prim.Native.Nat.{ℕ, suc, _+_, _%_}
 use mathlib.Core.List.{List, [], _∷_}
 use mathlib.Core.Option.{Option, none, some}

@@ -1,4 +1,4 @@
--- What the pass over the queue's entries finds: the rules of one entry, and what is known after a whole pass. Assumes nothing.
+-- What the pass over the queue's entries finds: the rules of one entry, and what is known after a whole pass.
 use Prim.Native.Nat.{ℕ, _%_}
 use mathlib.Core.Path.{_≡_}
 use mathlib.Core.List.{List}

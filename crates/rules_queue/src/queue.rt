@@ -64,7 +64,8 @@ fn entries(
     sent: &[u64; 64],
 ) -> Passed
     requires { ⌜ (end ≤ 128) × (end ≤ length (now queue)) × (seq ≤ acked + 32) ⌝ }
-    ensures { λ r. ⌜ EntriesPassed acked seq (now (sent .entry)) (drop first (take end (now (queue .entry)))) (r .good) (r .fresh) (r .states) ⌝ }
+    ensures { λ r. ⌜ EntriesPassed acked seq (now (sent .entry)) (drop first (take end (now (queue .entry)))) (r .good)
+        (r .fresh) (r .states) ⌝ }
 {
     let mut marks = [false; 32];
     let mut good = true;

@@ -1,6 +1,5 @@
 -- Refusal 1 on the records: 01's rules over the numbers of the records and their words, and how the records are laid out. No byte of a
 -- store is looked at. That it is just `formed` and the model's `rules` of what is seen is proofs/Seen.antt.
--- Assumes nothing.
 use Prim.Native.Nat.{ℕ}
 use mathlib.Core.List.{List}
 use mathlib.Core.Bool.{Bool, _&&_}

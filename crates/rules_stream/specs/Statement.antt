@@ -1,6 +1,6 @@
 -- What refusal 1 tests: on any records, words and stores, the test that the calls make (`okStream`) is that the records are laid out as
 -- they should be (`formed`) and that what is seen of them keeps 01's rules (`rules`). And that calls from a fresh stream never meet it.
--- Statements only: the proofs are in proofs/Seen.antt. Assumes nothing.
+-- Statements only: the proofs are in proofs/Seen.antt.
 use Prim.Native.Nat.{ℕ}
 use mathlib.Core.Path.{_≡_}
 use mathlib.Core.List.{List}

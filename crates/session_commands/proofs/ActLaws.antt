@@ -1,5 +1,5 @@
 -- What a command on an end leaves is the session's: its call answers as the model's on records that are laid out, and its line has the
--- model's outcome, count and bytes. Assumes nothing.
+-- model's outcome, count and bytes.
 use Prim.Native.Nat.{ℕ, _+_, _-_, _≤_, min}
 use native.Mathlib.Omega.{arith}
 use mathlib.Core.Path.{_≡_, refl, sym, ap, _∙_, subst}

@@ -1,5 +1,4 @@
 -- What the session says of a command, by its kind: each law takes the command apart and leaves what its arm of `act` shows.
--- Assumes nothing.
 use Prim.Native.Nat.{ℕ, _≤_, _<_}
 use mathlib.Core.Path.{_≡_, refl, sym, ap, _∙_, subst}
 use mathlib.Core.Bool.{Bool, true}

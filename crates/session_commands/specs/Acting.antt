@@ -1,4 +1,4 @@
--- What each command of a session does to the end that it is for, and its line (01, 'The session program'). Assumes nothing.
+-- What each command of a session does to the end that it is for, and its line (01, 'The session program').
 use Prim.Native.Nat.{ℕ}
 use mathlib.Core.Bool.{Bool, true}
 use mathlib.Core.List.{List, [], map, _++_}

@@ -1,4 +1,4 @@
--- How a command on an end's records is the session's: what is seen of the end after it, and its line. Assumes nothing.
+-- How a command on an end's records is the session's: what is seen of the end after it, and its line.
 use Prim.Native.Nat.{ℕ}
 use mathlib.Core.Path.{_≡_}
 use mathlib.Core.Bool.{true}

@@ -38,7 +38,8 @@ pub struct Acted {
 
 fn put_line(c: Called, name: Name, number: u8, line: &mut [u8]) -> Acted
     requires { ⌜ 8_400 ≤ length (now line) ⌝ }
-    ensures { λ r. ⌜ (r .end ≡ c .end) × Wrote (now (line .entry)) (now (line .exit)) 0 (r .len) 70 (lineOf name number (c .outcome) (c .count)) ⌝ }
+    ensures { λ r. ⌜ (r .end ≡ c .end) × Wrote (now (line .entry)) (now (line .exit)) 0 (r .len) 70
+        (lineOf name number (c .outcome) (c .count)) ⌝ }
 {
     let end = c.end;
     let outcome = c.outcome;
@@ -65,7 +66,9 @@ fn write_filled(
     incoming: &[u8],
     headers: &[u8],
 ) -> Called
-    ensures { λ r. ⌜ Calls (sending.write (replicate (length (now (buf .entry))) byte)) e (stores (now (outgoing .entry)) (now (incoming .entry)) (now (headers .entry))) r (stores (now (outgoing .exit)) (now (incoming .entry)) (now (headers .entry))) ⌝ }
+    ensures { λ r. ⌜ Calls (sending.write (replicate (length (now (buf .entry))) byte)) e
+        (stores (now (outgoing .entry)) (now (incoming .entry)) (now (headers .entry))) r
+        (stores (now (outgoing .exit)) (now (incoming .entry)) (now (headers .entry))) ⌝ }
 {
     fill(buf, byte);
     session_ends::write(e, buf, outgoing, incoming, headers)
@@ -82,7 +85,9 @@ fn write(
     scratch: &mut [u8],
 ) -> Called
     requires { ⌜ 65_536 ≤ length (now scratch) ⌝ }
-    ensures { λ r. ⌜ Calls (sending.write (replicate size byte)) e (stores (now (outgoing .entry)) (now (incoming .entry)) (now (headers .entry))) r (stores (now (outgoing .exit)) (now (incoming .entry)) (now (headers .entry))) ⌝ }
+    ensures { λ r. ⌜ Calls (sending.write (replicate size byte)) e
+        (stores (now (outgoing .entry)) (now (incoming .entry)) (now (headers .entry))) r
+        (stores (now (outgoing .exit)) (now (incoming .entry)) (now (headers .entry))) ⌝ }
 {
     let n = size as usize;
     write_filled(e, byte, &mut scratch[0..n], outgoing, incoming, headers)
@@ -114,7 +119,8 @@ fn take_into(
     kept: &mut [u8; KEPT_STORE],
     buf: &mut [u8],
 ) -> Called
-    ensures { λ r. ⌜ Keeps e (stores (now (outgoing .entry)) (now (incoming .entry)) (now (headers .entry))) (length (now (buf .entry))) (now (kept .entry)) r (now (kept .exit)) ⌝ }
+    ensures { λ r. ⌜ Keeps e (stores (now (outgoing .entry)) (now (incoming .entry)) (now (headers .entry)))
+        (length (now (buf .entry))) (now (kept .entry)) r (now (kept .exit)) ⌝ }
 {
     let c = session_ends::take(e, outgoing, incoming, headers, buf);
     keep(c, kept, buf)
@@ -130,7 +136,8 @@ pub fn take_and_keep(
     kept: &mut [u8; KEPT_STORE],
     scratch: &mut [u8],
 ) -> Called
-    ensures { λ r. ⌜ Keeps e (stores (now (outgoing .entry)) (now (incoming .entry)) (now (headers .entry))) (min room (length (now (scratch .entry)))) (now (kept .entry)) r (now (kept .exit)) ⌝ }
+    ensures { λ r. ⌜ Keeps e (stores (now (outgoing .entry)) (now (incoming .entry)) (now (headers .entry)))
+        (min room (length (now (scratch .entry)))) (now (kept .entry)) r (now (kept .exit)) ⌝ }
 {
     let n = least(room, scratch.len());
     take_into(e, outgoing, incoming, headers, kept, &mut scratch[0..n])
@@ -147,7 +154,11 @@ fn hand(
     headers: &mut [u8],
     kept: &[u8; KEPT_STORE],
 ) -> Called
-    ensures { λ r. ⌜ (number < length (keptOf theirs (now (kept .entry))) → Calls (receiving.deliver (getD (keptOf theirs (now (kept .entry))) number []) (clock .0)) e (stores (now (outgoing .entry)) (now (incoming .entry)) (now (headers .entry))) r (stores (now (outgoing .entry)) (now (incoming .exit)) (now (headers .exit)))) ⌝ }
+    ensures { λ r. ⌜
+        (number < length (keptOf theirs (now (kept .entry))) → Calls
+        (receiving.deliver (getD (keptOf theirs (now (kept .entry))) number []) (clock .0)) e
+        (stores (now (outgoing .entry)) (now (incoming .entry)) (now (headers .entry))) r
+        (stores (now (outgoing .entry)) (now (incoming .exit)) (now (headers .exit)))) ⌝ }
 {
     let datagram = session_kept::datagram(theirs, number, kept);
     session_ends::deliver(e, datagram, clock, outgoing, incoming, headers)
@@ -164,7 +175,14 @@ fn read_line(
     line: &mut [u8],
 ) -> Acted
     requires { ⌜ (length (now buf) ≤ 4_096) × (8_400 ≤ length (now line)) ⌝ }
-    ensures { λ r. ⌜ (r .len ≤ 8_400) × ((kept : _) → LaidEnd e (stores (now (outgoing .entry)) (now (incoming .entry)) (now (headers .entry))) → Acts (linedRead number (receiving.read (length (now (buf .entry))) (sideOf e (stores (now (outgoing .entry)) (now (incoming .entry)) (now (headers .entry))) kept .end)) (keptOf (e .kept) kept)) (r .end) (stores (now (outgoing .entry)) (now (incoming .entry)) (now (headers .entry))) kept (r .len) (now (line .exit))) ⌝ }
+    ensures { λ r. ⌜ (r .len ≤ 8_400) ×
+        ((kept : _) → LaidEnd e (stores (now (outgoing .entry)) (now (incoming .entry)) (now (headers .entry))) → Acts
+        (linedRead number
+        (receiving.read (length (now (buf .entry)))
+        (sideOf e (stores (now (outgoing .entry)) (now (incoming .entry)) (now (headers .entry))) kept .end))
+        (keptOf (e .kept) kept))
+        (r .end) (stores (now (outgoing .entry)) (now (incoming .entry)) (now (headers .entry))) kept (r .len)
+        (now (line .exit))) ⌝ }
 {
     let c = session_ends::read(e, outgoing, incoming, headers, buf);
     let put = least(c.count, buf.len());
@@ -193,7 +211,15 @@ fn read(
     line: &mut [u8],
 ) -> Acted
     requires { ⌜ (65_536 ≤ length (now scratch)) × (8_400 ≤ length (now line)) ⌝ }
-    ensures { λ r. ⌜ (r .len ≤ 8_400) × ((kept : _) → size ≤ 4_096 → LaidEnd e (stores (now (outgoing .entry)) (now (incoming .entry)) (now (headers .entry))) → Acts (linedRead number (receiving.read size (sideOf e (stores (now (outgoing .entry)) (now (incoming .entry)) (now (headers .entry))) kept .end)) (keptOf (e .kept) kept)) (r .end) (stores (now (outgoing .entry)) (now (incoming .entry)) (now (headers .entry))) kept (r .len) (now (line .exit))) ⌝ }
+    ensures { λ r. ⌜ (r .len ≤ 8_400) ×
+        ((kept : _) → size ≤ 4_096 → LaidEnd e
+        (stores (now (outgoing .entry)) (now (incoming .entry)) (now (headers .entry))) → Acts
+        (linedRead number
+        (receiving.read size
+        (sideOf e (stores (now (outgoing .entry)) (now (incoming .entry)) (now (headers .entry))) kept .end))
+        (keptOf (e .kept) kept))
+        (r .end) (stores (now (outgoing .entry)) (now (incoming .entry)) (now (headers .entry))) kept (r .len)
+        (now (line .exit))) ⌝ }
 {
     let n = least(size as usize, 4_096);
     read_line(
@@ -221,7 +247,15 @@ pub fn act(
     line: &mut [u8; LINE],
 ) -> Acted
     ensures { λ r. ⌜ r .len ≤ 8_400 ⌝ }
-    ensures { λ r. ⌜ (LaidEnd e (stores (now (outgoing .entry)) (now (incoming .entry)) (now (headers .entry))) → hasDatagram command (keptOf theirs (now (kept .entry))) ≡ true → shortRead command ≡ true → Acts (acted command (sideOf e (stores (now (outgoing .entry)) (now (incoming .entry)) (now (headers .entry))) (now (mine .entry))) (keptOf theirs (now (kept .entry)))) (r .end) (stores (now (outgoing .exit)) (now (incoming .exit)) (now (headers .exit))) (now (mine .exit)) (r .len) (now (line .exit))) ⌝ }
+    ensures { λ r. ⌜
+        (LaidEnd e (stores (now (outgoing .entry)) (now (incoming .entry)) (now (headers .entry))) → hasDatagram command
+        (keptOf theirs (now (kept .entry))) ≡ true → shortRead command ≡ true → Acts
+        (acted command
+        (sideOf e (stores (now (outgoing .entry)) (now (incoming .entry)) (now (headers .entry)))
+        (now (mine .entry)))
+        (keptOf theirs (now (kept .entry))))
+        (r .end) (stores (now (outgoing .exit)) (now (incoming .exit)) (now (headers .exit))) (now (mine .exit))
+        (r .len) (now (line .exit))) ⌝ }
 {
     match command {
         Command::Write {

@@ -1,5 +1,5 @@
 -- A call on an end is the call of crate `udx` on the end's records: its numbers, its words, and the stores that are lent beside it. What
--- the end keeps of datagrams taken stays, whatever the call. Assumes nothing.
+-- the end keeps of datagrams taken stays, whatever the call.
 use Prim.Native.Nat.{ℕ}
 use mathlib.Core.Path.{_≡_}
 use mathlib.Core.List.{List, []}

@@ -49,7 +49,9 @@ pub fn write(
     incoming: &[u8],
     headers: &[u8],
 ) -> Called
-    ensures { λ r. ⌜ Calls (sending.write (now (bytes .entry))) e (stores (now (outgoing .entry)) (now (incoming .entry)) (now (headers .entry))) r (stores (now (outgoing .exit)) (now (incoming .entry)) (now (headers .entry))) ⌝ }
+    ensures { λ r. ⌜ Calls (sending.write (now (bytes .entry))) e
+        (stores (now (outgoing .entry)) (now (incoming .entry)) (now (headers .entry))) r
+        (stores (now (outgoing .exit)) (now (incoming .entry)) (now (headers .entry))) ⌝ }
 {
     let mut sent = e.sent;
     let held = e.held;
@@ -76,7 +78,9 @@ pub fn deliver(
     incoming: &mut [u8],
     headers: &mut [u8],
 ) -> Called
-    ensures { λ r. ⌜ Calls (receiving.deliver (now (datagram .entry)) (clock .0)) e (stores (now (outgoing .entry)) (now (incoming .entry)) (now (headers .entry))) r (stores (now (outgoing .entry)) (now (incoming .exit)) (now (headers .exit))) ⌝ }
+    ensures { λ r. ⌜ Calls (receiving.deliver (now (datagram .entry)) (clock .0)) e
+        (stores (now (outgoing .entry)) (now (incoming .entry)) (now (headers .entry))) r
+        (stores (now (outgoing .entry)) (now (incoming .exit)) (now (headers .exit))) ⌝ }
 {
     let mut sent = e.sent;
     let mut held = e.held;
@@ -103,7 +107,9 @@ pub fn drive(
     incoming: &[u8],
     headers: &mut [u8],
 ) -> Called
-    ensures { λ r. ⌜ Calls (driving.drive (clock .0)) e (stores (now (outgoing .entry)) (now (incoming .entry)) (now (headers .entry))) r (stores (now (outgoing .entry)) (now (incoming .entry)) (now (headers .exit))) ⌝ }
+    ensures { λ r. ⌜ Calls (driving.drive (clock .0)) e
+        (stores (now (outgoing .entry)) (now (incoming .entry)) (now (headers .entry))) r
+        (stores (now (outgoing .entry)) (now (incoming .entry)) (now (headers .exit))) ⌝ }
 {
     let mut sent = e.sent;
     let held = e.held;
@@ -129,7 +135,8 @@ pub fn take(
     headers: &[u8],
     buf: &mut [u8],
 ) -> Called
-    ensures { λ r. ⌜ CallsTake e (stores (now (outgoing .entry)) (now (incoming .entry)) (now (headers .entry))) (now (buf .entry)) r (now (buf .exit)) ⌝ }
+    ensures { λ r. ⌜ CallsTake e (stores (now (outgoing .entry)) (now (incoming .entry)) (now (headers .entry)))
+        (now (buf .entry)) r (now (buf .exit)) ⌝ }
 {
     let mut sent = e.sent;
     let held = e.held;
@@ -155,7 +162,8 @@ pub fn read(
     headers: &[u8],
     buf: &mut [u8],
 ) -> Called
-    ensures { λ r. ⌜ CallsRead e (stores (now (outgoing .entry)) (now (incoming .entry)) (now (headers .entry))) (now (buf .entry)) r (now (buf .exit)) ⌝ }
+    ensures { λ r. ⌜ CallsRead e (stores (now (outgoing .entry)) (now (incoming .entry)) (now (headers .entry)))
+        (now (buf .entry)) r (now (buf .exit)) ⌝ }
 {
     let sent = e.sent;
     let mut held = e.held;
@@ -175,7 +183,9 @@ pub fn read(
 }
 
 pub fn close(e: SessionEnd, outgoing: &[u8], incoming: &[u8], headers: &mut [u8]) -> Called
-    ensures { λ r. ⌜ Calls sending.close e (stores (now (outgoing .entry)) (now (incoming .entry)) (now (headers .entry))) r (stores (now (outgoing .entry)) (now (incoming .entry)) (now (headers .exit))) ⌝ }
+    ensures { λ r. ⌜ Calls sending.close e
+        (stores (now (outgoing .entry)) (now (incoming .entry)) (now (headers .entry))) r
+        (stores (now (outgoing .entry)) (now (incoming .entry)) (now (headers .exit))) ⌝ }
 {
     let sent = e.sent;
     let held = e.held;
@@ -194,7 +204,8 @@ pub fn close(e: SessionEnd, outgoing: &[u8], incoming: &[u8], headers: &mut [u8]
 }
 
 pub fn look<'a>(e: SessionEnd, outgoing: &'a [u8], incoming: &[u8], headers: &'a [u8]) -> &'a [u8]
-    ensures { λ r. ⌜ now r ≡ shownOf (e .stream) (e .totals) (lentOf e (stores (now (outgoing .entry)) (now (incoming .entry)) (now (headers .entry)))) ⌝ }
+    ensures { λ r. ⌜ now r ≡ shownOf (e .stream) (e .totals)
+        (lentOf e (stores (now (outgoing .entry)) (now (incoming .entry)) (now (headers .entry)))) ⌝ }
 {
     let sent = e.sent;
     let held = e.held;

@@ -33,7 +33,8 @@ pub fn fresh_end(
     incoming: &[u8],
     headers: &[u8],
 ) -> SessionEnd
-    ensures { λ r. ⌜ Fresh local remote (stores (now (outgoing .entry)) (now (incoming .entry)) (now (headers .entry))) r ⌝ }
+    ensures { λ r. ⌜ Fresh local remote (stores (now (outgoing .entry)) (now (incoming .entry)) (now (headers .entry)))
+        r ⌝ }
 {
     let o = udx::open::open(local, remote, 10, Nanos(0), outgoing, incoming, headers);
     let stream = o.stream;

@@ -1,6 +1,6 @@
 -- The datagrams kept: how many they are, which one has which number, and that one more kept behind them leaves the last 32 of all.
 -- It goes into the slot behind the newest one's: a free slot with fewer than 32 kept, else, round the slots, the oldest one's. The others
--- stay where they are, as numbers less than 32 apart have different slots. Assumes nothing.
+-- stay where they are, as numbers less than 32 apart have different slots.
 use Prim.Native.Nat.{ℕ, zero, suc, _+_, _-_, _*_, _%_, _≤_, _<_, min}
 use native.Mathlib.Nat.{mul-le-mul-right, suc-mul}
 use native.Mathlib.Omega.{arith}

@@ -1,5 +1,5 @@
 -- The next datagram of a batch is the front of what is left of it: a whole batch is one datagram, and of one cut into pieces the rest is
--- cut as if it stood alone, however many pieces the cut may make. Assumes nothing.
+-- cut as if it stood alone, however many pieces the cut may make.
 use Prim.Native.Nat.{ℕ, zero, suc, _-_, _≤_, _<_}
 use native.Mathlib.Omega.{arith}
 use mathlib.Core.Path.{_≡_, refl, sym, ap, ap₂, _∙_}

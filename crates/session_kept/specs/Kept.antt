@@ -1,5 +1,5 @@
 -- The datagrams kept of an end, "the other end's last 32 taken" (01, 04 hand), as they stand in the slots of a lent store. Every record
--- and store has a meaning: a count above 32 is 32, and slot numbers go round. Assumes nothing.
+-- and store has a meaning: a count above 32 is 32, and slot numbers go round.
 use Prim.Native.Nat.{ℕ, _+_, _-_, _*_, _%_, _≤_, _<_, min}
 use mathlib.Core.Path.{_≡_}
 use mathlib.Core.Logic.{_≢_}

@@ -67,7 +67,8 @@ fn in_slot(k: Kept, i: usize, kept: &[u8]) -> &[u8]
 
 // A kept datagram's bytes.
 pub fn datagram(k: Kept, number: u16, kept: &[u8; KEPT_STORE]) -> &[u8]
-    ensures { λ r. ⌜ (number < length (keptOf k (now (kept .entry))) → now r ≡ getD (keptOf k (now (kept .entry))) number []) ⌝ }
+    ensures { λ r. ⌜
+        (number < length (keptOf k (now (kept .entry))) → now r ≡ getD (keptOf k (now (kept .entry))) number []) ⌝ }
 {
     in_slot(k, slot(k, number), kept)
 }
@@ -102,7 +103,8 @@ fn one_more(k: Kept) -> Kept
 // A datagram behind the newest one; with 32 kept it takes the place of the oldest.
 fn keep_one(k: Kept, datagram: &[u8], kept: &mut [u8]) -> Kept
     requires { ⌜ 44_800 ≤ length (now kept) ⌝ }
-    ensures { λ r. ⌜ keptOf r (now (kept .exit)) ≡ lastKept (keptOf k (now (kept .entry)) ++ (fitted (now (datagram .entry)) ∷ [])) ⌝ }
+    ensures { λ r. ⌜ keptOf r (now (kept .exit)) ≡ lastKept
+        (keptOf k (now (kept .entry)) ++ (fitted (now (datagram .entry)) ∷ [])) ⌝ }
 {
     let count = kept_count(k);
     let i = slot(k, count);
@@ -123,7 +125,8 @@ fn piece(segment: usize, left: usize) -> usize
 // The datagrams of a batch, one after the other.
 fn keep_all(k: Kept, batch: &[u8], segment: usize, kept: &mut [u8]) -> Kept
     requires { ⌜ 44_800 ≤ length (now kept) ⌝ }
-    ensures { λ r. ⌜ keptOf r (now (kept .exit)) ≡ lastKept (keptOf k (now (kept .entry)) ++ map fitted (datagramsOf (segmentOf segment) (now (batch .entry)))) ⌝ }
+    ensures { λ r. ⌜ keptOf r (now (kept .exit)) ≡ lastKept
+        (keptOf k (now (kept .entry)) ++ map fitted (datagramsOf (segmentOf segment) (now (batch .entry)))) ⌝ }
 {
     let mut r = k;
     let mut at: usize = 0;
@@ -137,7 +140,8 @@ fn keep_all(k: Kept, batch: &[u8], segment: usize, kept: &mut [u8]) -> Kept
 
 // "A batch's datagrams are its pieces of segment size, or all of it where it has none"
 pub fn keep(k: Kept, batch: &[u8], segment: usize, kept: &mut [u8; KEPT_STORE]) -> Kept
-    ensures { λ r. ⌜ keptOf r (now (kept .exit)) ≡ lastKept (keptOf k (now (kept .entry)) ++ map fitted (datagramsOf (segmentOf segment) (now (batch .entry)))) ⌝ }
+    ensures { λ r. ⌜ keptOf r (now (kept .exit)) ≡ lastKept
+        (keptOf k (now (kept .entry)) ++ map fitted (datagramsOf (segmentOf segment) (now (batch .entry)))) ⌝ }
 {
     keep_all(k, batch, segment, kept)
 }

@@ -1,4 +1,4 @@
--- The commands of a session script. Assumes nothing.
+-- The commands of a session script.
 use Prim.Native.Nat.{ℕ, _+_, _*_, _<_, _≤_}
 use mathlib.Core.Path.{_≡_}
 use mathlib.Core.Bool.{cond}

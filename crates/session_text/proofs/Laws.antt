@@ -1,4 +1,4 @@
--- The laws of `decimalTo`. Assumes nothing.
+-- The laws of `decimalTo`.
 use Prim.Native.Nat.{ℕ, zero, suc, _+_, _-_, _*_, _/_, _%_, _≤_, _<_}
 use mathlib.Core.Path.{_≡_, refl, sym, ap, _∙_}
 use mathlib.Core.Bool.{Bool, true, false, cond}

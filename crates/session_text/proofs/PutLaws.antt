@@ -1,4 +1,4 @@
--- The laws of `put`: what several writes into one buffer come to. Assumes nothing.
+-- The laws of `put`: what several writes into one buffer come to.
 use Prim.Native.Nat.{ℕ, suc, _+_, _≤_, _<_}
 use mathlib.Core.Path.{_≡_, refl, sym, ap, _∙_}
 use mathlib.Core.List.{List, [], _∷_, _++_, append-assoc}

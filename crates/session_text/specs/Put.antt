@@ -1,4 +1,4 @@
--- What it is to put a text into a buffer. Assumes nothing.
+-- What it is to put a text into a buffer.
 use Prim.Native.Nat.{ℕ, _+_, _≤_}
 use mathlib.Core.Path.{_≡_}
 use mathlib.Core.List.{List, _++_}

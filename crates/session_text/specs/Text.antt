@@ -1,4 +1,4 @@
--- The lines of a session, as lists of ASCII codes. Assumes nothing.
+-- The lines of a session, as lists of ASCII codes.
 use Prim.Native.Nat.{ℕ, zero, suc, _+_, _/_, _%_}
 use mathlib.Core.Bool.{cond}
 use mathlib.Core.List.{List, [], _∷_, _++_}

@@ -62,7 +62,8 @@ pub fn put_bytes_line(
     bytes: &[u8],
 ) -> usize
     requires { ⌜ 80 + 2 * length (now bytes) ≤ length (now out) ⌝ }
-    ensures { λ r. ⌜ Wrote (now (out .entry)) (now (out .exit)) 0 r (80 + 2 * length (now (bytes .entry))) (bytesLineOf name end outcome count (now (bytes .entry))) ⌝ }
+    ensures { λ r. ⌜ Wrote (now (out .entry)) (now (out .exit)) 0 r (80 + 2 * length (now (bytes .entry)))
+        (bytesLineOf name end outcome count (now (bytes .entry))) ⌝ }
     ensures { λ r. ⌜ Counts r (now (out .exit)) ⌝ }
 {
     let a = put_name(out, name);

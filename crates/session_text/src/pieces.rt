@@ -10,7 +10,8 @@ use error::Outcome;
 // A word as it stands.
 pub fn put_word(out: &mut [u8], at: usize, word: &[u8]) -> usize
     requires { ⌜ at + length (now word) ≤ length (now out) ⌝ }
-    ensures { λ r. ⌜ (r ≡ at + length (now (word .entry))) × (now (out .exit) ≡ put (now (out .entry)) at (now (word .entry))) ⌝ }
+    ensures { λ r. ⌜ (r ≡ at + length (now (word .entry))) ×
+        (now (out .exit) ≡ put (now (out .entry)) at (now (word .entry))) ⌝ }
 {
     let mut i = 0;
     while i < word.len() {
@@ -57,7 +58,8 @@ fn digit(d: u8) -> u8
 
 fn put_hex(out: &mut [u8], at: usize, bytes: &[u8]) -> usize
     requires { ⌜ at + 2 * length (now bytes) ≤ length (now out) ⌝ }
-    ensures { λ r. ⌜ (r ≡ at + length (hexOf (now (bytes .entry)))) × (now (out .exit) ≡ put (now (out .entry)) at (hexOf (now (bytes .entry)))) ⌝ }
+    ensures { λ r. ⌜ (r ≡ at + length (hexOf (now (bytes .entry)))) ×
+        (now (out .exit) ≡ put (now (out .entry)) at (hexOf (now (bytes .entry)))) ⌝ }
 {
     let mut to = at;
     let mut i = 0;
@@ -74,7 +76,8 @@ fn put_hex(out: &mut [u8], at: usize, bytes: &[u8]) -> usize
 // Bytes in hexadecimal, or `-` where there are none.
 pub fn put_bytes(out: &mut [u8], at: usize, bytes: &[u8]) -> usize
     requires { ⌜ at + 2 * length (now bytes) < length (now out) ⌝ }
-    ensures { λ r. ⌜ Wrote (now (out .entry)) (now (out .exit)) at r (2 * length (now (bytes .entry)) + 1) (bytesOf (now (bytes .entry))) ⌝ }
+    ensures { λ r. ⌜ Wrote (now (out .entry)) (now (out .exit)) at r (2 * length (now (bytes .entry)) + 1)
+        (bytesOf (now (bytes .entry))) ⌝ }
 {
     if bytes.len() == 0 {
         out[at] = b'-';

@@ -1,4 +1,4 @@
--- A command of a script reads at most 4,096 bytes: a longer read ends the run when it is parsed. Assumes nothing.
+-- A command of a script reads at most 4,096 bytes: a longer read ends the run when it is parsed.
 use Prim.Native.Nat.{ℕ, _≤_}
 use mathlib.Core.Path.{_≡_, refl}
 use mathlib.Core.Bool.{Bool, true, false}

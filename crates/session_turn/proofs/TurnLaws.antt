@@ -1,4 +1,4 @@
--- One turn of the code is the session's: the command that is parsed is run on the end that it is for, or the run ends. Assumes nothing.
+-- One turn of the code is the session's: the command that is parsed is run on the end that it is for, or the run ends.
 use Prim.Native.Nat.{ℕ, _+_, _-_, _≤_, _<_}
 use native.Mathlib.Omega.{arith}
 use mathlib.Core.Path.{_≡_, refl, sym, ap, _∙_, subst}

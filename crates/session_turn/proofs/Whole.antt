@@ -1,5 +1,5 @@
 -- A whole session prints what the definition says: by induction over the turns. Each goes on by a byte at least, so the definition's
--- count covers them; the ends that `open_ends` hands out are laid out and are seen as the model's fresh ones. Assumes nothing.
+-- count covers them; the ends that `open_ends` hands out are laid out and are seen as the model's fresh ones.
 use Prim.Native.Nat.{ℕ, zero, suc, _+_, _≤_, _<_}
 use native.Mathlib.Omega.{arith}
 use mathlib.Core.Path.{_≡_, refl, sym, ap, ap₂, _∙_}

@@ -1,5 +1,4 @@
 -- 01's example session, computed over the definition: its script, and what it prints. Statement; computed in proofs/Example.antt.
--- Assumes nothing.
 use Prim.Native.Nat.{ℕ}
 use mathlib.Core.Path.{_≡_}
 use mathlib.Core.List.{List, [], _∷_, _++_}

@@ -1,5 +1,5 @@
 -- The session of 01 as a function of its script: what each command does to the two ends, and what is printed. `turn` is one command,
--- `session` a whole script; what a command does to the end that it is for is `acted` (session_commands/specs/Acting.antt). Assumes nothing.
+-- `session` a whole script; what a command does to the end that it is for is `acted` (session_commands/specs/Acting.antt).
 use Prim.Native.Nat.{ℕ, zero, suc, _+_}
 use mathlib.Core.Bool.{Bool, cond, _&&_}
 use mathlib.Core.List.{List, [], _++_}

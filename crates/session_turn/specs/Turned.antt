@@ -1,4 +1,4 @@
--- What one turn of the code is: the session's, on what is seen of the ends. Assumes nothing.
+-- What one turn of the code is: the session's, on what is seen of the ends.
 use Prim.Native.Nat.{ℕ, _+_, _<_, _≤_}
 use mathlib.Core.Path.{_≡_}
 use lib.ListN.{length, take, drop}

@@ -1,6 +1,6 @@
 -- A whole session: the turns of a script, one after another from two fresh ends, print what the definition says (`session`). What is
 -- known of a turn is the contract of `run_one`, and of the ends that of `open_ends`, word for word (proofs/Contracts.antt). The statement
--- is `WholeSession`, at the bottom; the proof is proofs/Whole.antt. Assumes nothing.
+-- is `WholeSession`, at the bottom; the proof is proofs/Whole.antt.
 use Prim.Native.Nat.{ℕ, _≤_, _<_}
 use mathlib.Core.Path.{_≡_}
 use mathlib.Core.Bool.{false}

@@ -15,7 +15,9 @@ pub fn open_ends(
     incoming_1: &[u8; INCOMING_STORE],
     headers_1: &[u8; HEADER_STORE],
 ) -> Ends
-    ensures { λ r. ⌜ OpenedEnds r (stores (now («outgoing_0» .entry)) (now («incoming_0» .entry)) (now («headers_0» .entry))) (stores (now («outgoing_1» .entry)) (now («incoming_1» .entry)) (now («headers_1» .entry))) ⌝ }
+    ensures { λ r. ⌜ OpenedEnds r
+        (stores (now («outgoing_0» .entry)) (now («incoming_0» .entry)) (now («headers_0» .entry)))
+        (stores (now («outgoing_1» .entry)) (now («incoming_1» .entry)) (now («headers_1» .entry))) ⌝ }
 {
     let zero = session_ends::fresh_end(1, 2, outgoing_0, incoming_0, headers_0);
     let one = session_ends::fresh_end(2, 1, outgoing_1, incoming_1, headers_1);

@@ -108,7 +108,8 @@ fn command_at(script: &[u8], at: usize) -> Placed
 
 // The run ends at the command at `at`.
 pub fn stop(ends: Ends, size: usize, at: usize, line: &mut [u8; LINE]) -> Turn
-    ensures { λ r. ⌜ (r .ends ≡ ends) × ((r .next ≡ size) × Wrote (now (line .entry)) (now (line .exit)) 0 (r .len) 28 (scriptLineOf at)) ⌝ }
+    ensures { λ r. ⌜ (r .ends ≡ ends) ×
+        ((r .next ≡ size) × Wrote (now (line .entry)) (now (line .exit)) 0 (r .len) 28 (scriptLineOf at)) ⌝ }
 {
     let len = session_text::put_script_line(line, at as u64);
     Turn {
@@ -135,7 +136,21 @@ pub fn run_one(
     line: &mut [u8; LINE],
 ) -> Turn
     ensures { λ r. ⌜ Turned (length (now (script .entry))) at r ⌝ }
-    ensures { λ r. ⌜ (at < length (now (script .entry)) → LaidEnd (ends .zero) (stores (now («outgoing_0» .entry)) (now («incoming_0» .entry)) (now («headers_0» .entry))) → LaidEnd (ends .one) (stores (now («outgoing_1» .entry)) (now («incoming_1» .entry)) (now («headers_1» .entry))) → Plays (turn (now (script .entry)) at (sidesOf ends (lends (now («outgoing_0» .entry)) (now («incoming_0» .entry)) (now («headers_0» .entry)) (now («kept_0» .entry)) (now («outgoing_1» .entry)) (now («incoming_1» .entry)) (now («headers_1» .entry)) (now («kept_1» .entry))))) r (lends (now («outgoing_0» .exit)) (now («incoming_0» .exit)) (now («headers_0» .exit)) (now («kept_0» .exit)) (now («outgoing_1» .exit)) (now («incoming_1» .exit)) (now («headers_1» .exit)) (now («kept_1» .exit))) (now (line .exit))) ⌝ }
+    ensures { λ r. ⌜
+        (at < length (now (script .entry)) → LaidEnd (ends .zero)
+        (stores (now («outgoing_0» .entry)) (now («incoming_0» .entry)) (now («headers_0» .entry))) → LaidEnd
+        (ends .one) (stores (now («outgoing_1» .entry)) (now («incoming_1» .entry)) (now («headers_1» .entry))) →
+        Plays
+        (turn (now (script .entry)) at
+        (sidesOf ends
+        (lends (now («outgoing_0» .entry)) (now («incoming_0» .entry)) (now («headers_0» .entry))
+        (now («kept_0» .entry)) (now («outgoing_1» .entry)) (now («incoming_1» .entry))
+        (now («headers_1» .entry)) (now («kept_1» .entry)))))
+        r
+        (lends (now («outgoing_0» .exit)) (now («incoming_0» .exit)) (now («headers_0» .exit))
+        (now («kept_0» .exit)) (now («outgoing_1» .exit)) (now («incoming_1» .exit)) (now («headers_1» .exit))
+        (now («kept_1» .exit)))
+        (now (line .exit))) ⌝ }
 {
     let size = script.len();
     if size <= at {

@@ -1,5 +1,5 @@
 -- The words of the entries left to take: which word of the queue is the one of entry i, what entry i is in the model, and how many
--- state packets come before it, which gives a state packet's place in the header store. Assumes nothing.
+-- state packets come before it, which gives a state packet's place in the header store.
 use Prim.Native.Nat.{ℕ, suc, _+_, _-_, _≤_, _<_}
 use native.Mathlib.Omega.{arith}
 use mathlib.Core.Path.{_≡_, refl, ap, sym, _∙_}

@@ -1,5 +1,5 @@
 -- The size of the next batch, counted over the queue's words: how many words in a row say an entry of one size (`sameFrom`). The count
--- goes up by one with each such word, and it is the model's `batch` of what is seen. Assumes nothing.
+-- goes up by one with each such word, and it is the model's `batch` of what is seen.
 use Prim.Native.Nat.{ℕ, zero, suc, _+_, _-_, _≤_, _<_, min}
 use native.Mathlib.Omega.{arith}
 use mathlib.Core.Path.{_≡_, refl, ap, ap₂, sym, _∙_}

@@ -1,6 +1,5 @@
 -- What the functions of this crate promise: how many entries the next batch has, and the first one's length. Each promise speaks of the
 -- end of the model that is seen of the records (`seen`), for any stream that has the numbers and words which the function is given.
--- Assumes nothing.
 use Prim.Native.Nat.{ℕ, _≤_}
 use mathlib.Core.Path.{_≡_}
 use mathlib.Core.List.{List}

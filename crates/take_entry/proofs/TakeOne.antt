@@ -1,6 +1,5 @@
 -- One entry is taken: the bytes that the code copies out of a store are the datagram that the model shows, and the words after the mark
 -- are the model's store with that packet marked. A packet is there where its number is of the window and its slot has it.
--- Assumes nothing.
 use Prim.Native.Nat.{ℕ, suc, _+_, _*_, _%_, _^_, _≤_, _<_}
 use native.Mathlib.Omega.{arith}
 use mathlib.Core.Path.{_≡_, refl, ap, sym, _∙_}

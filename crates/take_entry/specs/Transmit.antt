@@ -1,5 +1,4 @@
 -- What taking one entry puts into the buffer and marks in the records: the model's step on the outgoing store that is seen.
--- Assumes nothing.
 use Prim.Native.Nat.{ℕ, _+_, _*_, _%_, _^_, _≤_, _<_}
 use mathlib.Core.Path.{_≡_}
 use mathlib.Core.List.{List, [], _∷_}

@@ -70,7 +70,8 @@ fn take_packet(
     buf: &mut [u8],
 ) -> Progress
     requires { ⌜ (length (now outgoing) ≡ 44_800) × TransmitBounds packet 30 × (p .at + 1_400 ≤ length (now buf)) ⌝ }
-    ensures { λ r. ⌜ TakesPacket p packet (drive .0) (now (sent .entry)) (now (outgoing .entry)) (now (buf .entry)) r (now (sent .exit)) (now (buf .exit)) ⌝ }
+    ensures { λ r. ⌜ TakesPacket p packet (drive .0) (now (sent .entry)) (now (outgoing .entry)) (now (buf .entry)) r
+        (now (sent .exit)) (now (buf .exit)) ⌝ }
 {
     let end = p.at + packet.length as usize;
     let next = taken_packet(packet, drive);
@@ -95,7 +96,8 @@ pub fn transmit(
     buf: &mut [u8],
 ) -> Progress
     requires { ⌜ CanTakeEntry s x (drive .0) p (now sent) (now outgoing) (now headers) (now buf) ⌝ }
-    ensures { λ r. ⌜ TakesEntry s x (drive .0) p (now (sent .entry)) (now (outgoing .entry)) (now (headers .entry)) (now (buf .entry)) r (now (sent .exit)) (now (buf .exit)) ⌝ }
+    ensures { λ r. ⌜ TakesEntry s x (drive .0) p (now (sent .entry)) (now (outgoing .entry)) (now (headers .entry))
+        (now (buf .entry)) r (now (sent .exit)) (now (buf .exit)) ⌝ }
 {
     if x.state {
         return take_state(p, headers, buf);

@@ -1,6 +1,6 @@
 -- A batch cut at its segment size is the datagrams of its entries whose packets are there, and `look` shows the first. A mark keeps a
 -- packet's bytes, so these datagrams are read from the store as it was; all have the length of the first entry, which is not 0, so
--- cutting undoes joining. Assumes nothing.
+-- cutting undoes joining.
 use Prim.Native.Nat.{ℕ, zero, suc, _≤_, _<_, min, zero-le}
 use native.Mathlib.Decide.{ℕ-discrete}
 use native.Mathlib.Omega.{arith}

@@ -1,6 +1,5 @@
 -- The search for the next datagram: while every entry passed is of a packet that has left, the first there of all entries is the first
 -- there of the rest, and no state packet was passed. What the search answers stands in a store at the bytes that are shown.
--- Assumes nothing.
 use Prim.Native.Nat.{ℕ, _+_, _*_, _%_, _≤_, _<_}
 use native.Mathlib.Omega.{arith}
 use native.Mathlib.Numerals.{add-one}

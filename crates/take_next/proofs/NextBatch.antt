@@ -1,5 +1,5 @@
 -- The next batch: `Batched` says that the model's has as many entries, so what is put, its count, its segment size and the queue after it
--- are the model's. Assumes nothing.
+-- are the model's.
 use Prim.Native.Nat.{ℕ}
 use native.Mathlib.Omega.{arith}
 use mathlib.Core.Path.{_≡_, ap₂, sym, _∙_, subst}

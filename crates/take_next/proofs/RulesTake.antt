@@ -1,6 +1,6 @@
 -- What the functions of this crate need is what 01's rules give: records whose end keeps the rules, laid out as they should be, with
 -- stores of the right lengths, are `TakeRules`, and with an entry left to take
--- the next batch can be taken where the buffer has 14,000 bytes. Assumes nothing.
+-- the next batch can be taken where the buffer has 14,000 bytes.
 use Prim.Native.Nat.{ℕ, zero, suc, _%_, _^_, _≤_, _<_}
 use native.Mathlib.Omega.{arith}
 use mathlib.Core.Path.{_≡_, refl, _∙_}

@@ -1,5 +1,5 @@
 -- From the stores to the whole end: the model's `takeLoop` is `sendLoop` on the outgoing store, with the entries gone from the queue; and
--- the records after a take, with the shorter queue, are seen as the model's end after it. Assumes nothing.
+-- the records after a take, with the shorter queue, are seen as the model's end after it.
 use Prim.Native.Nat.{ℕ, zero, suc, _+_, _-_, _≤_}
 use native.Mathlib.Omega.{arith}
 use mathlib.Core.Path.{_≡_, refl, ap, ap₂, sym, _∙_}

@@ -1,6 +1,5 @@
 -- Some entries are taken, one after another: what the loop has put and marked after i of them is `sendLoop` of the first i, and one
 -- more turn is one more `sendEntry` at its end. Marks keep a packet's bytes and add a transmit, so ten of them stay within a word.
--- Assumes nothing.
 use Prim.Native.Nat.{ℕ, zero, suc, _+_, _*_, _%_, _≤_, _<_}
 use native.Mathlib.Omega.{arith}
 use native.Mathlib.Numerals.{add-one}

@@ -1,6 +1,5 @@
 -- What a batch is to the one who sends it: cut at its segment size, or taken whole where it has none, it is the datagrams of its entries
 -- whose packets are there, in order, and `look` shows the first of them. Claims over the model alone; proofs/BatchCut.antt has them.
--- Assumes nothing.
 use Prim.Native.Nat.{_<_}
 use mathlib.Core.Path.{_≡_}
 use mathlib.Core.List.{List, [], _∷_}

@@ -1,6 +1,6 @@
 -- What the functions of this crate promise: what taking entries puts into the buffer and marks in the records, the queue after it, and the
 -- next datagram. Each promise speaks of the end of the model that is seen of the records (`seen`), for any stream that has the numbers,
--- words and stores which the function is given. Assumes nothing.
+-- words and stores which the function is given.
 use Prim.Native.Nat.{ℕ, zero, suc, _+_, _-_, _%_, _^_, _≤_, _<_}
 use mathlib.Core.Path.{_≡_}
 use mathlib.Core.List.{List, [], _∷_, _++_}

@@ -33,7 +33,8 @@ fn to_transmit(
     buf: &mut [u8],
 ) -> Progress
     requires { ⌜ CanTake q s k (drive .0) (now sent) (now queue) (now outgoing) (now headers) (now buf) ⌝ }
-    ensures { λ r. ⌜ Takes q s k (drive .0) (now (sent .entry)) (now (queue .entry)) (now (outgoing .entry)) (now (headers .entry)) (now (buf .entry)) r (now (sent .exit)) (now (buf .exit)) ⌝ }
+    ensures { λ r. ⌜ Takes q s k (drive .0) (now (sent .entry)) (now (queue .entry)) (now (outgoing .entry))
+        (now (headers .entry)) (now (buf .entry)) r (now (sent .exit)) (now (buf .exit)) ⌝ }
 {
     word_count(queue);
     word_count(sent);
@@ -103,7 +104,8 @@ pub fn next_batch(
     buf: &mut [u8],
 ) -> Handed
     requires { ⌜ Sendable q s segments (drive .0) (now sent) (now queue) (now outgoing) (now headers) (now buf) ⌝ }
-    ensures { λ r. ⌜ HandsOut q s segments (drive .0) (now (sent .entry)) (now (queue .entry)) (now (outgoing .entry)) (now (headers .entry)) (now (buf .entry)) r (now (sent .exit)) (now (buf .exit)) ⌝ }
+    ensures { λ r. ⌜ HandsOut q s segments (drive .0) (now (sent .entry)) (now (queue .entry)) (now (outgoing .entry))
+        (now (headers .entry)) (now (buf .entry)) r (now (sent .exit)) (now (buf .exit)) ⌝ }
 {
     let k = batch(q, segments, queue);
     let head = head_length(q, queue);
@@ -170,7 +172,8 @@ pub fn look_next<'a>(
     headers: &'a [u8],
 ) -> &'a [u8]
     requires { ⌜ TakeRules q s (now sent) (now queue) (now outgoing) (now headers) ⌝ }
-    ensures { λ r. ⌜ ShowsNext q s (now (sent .entry)) (now (queue .entry)) (now (outgoing .entry)) (now (headers .entry)) (now r) ⌝ }
+    ensures { λ r. ⌜ ShowsNext q s (now (sent .entry)) (now (queue .entry)) (now (outgoing .entry))
+        (now (headers .entry)) (now r) ⌝ }
 {
     let x = next_entry(q, s, sent, queue);
     if x.state {

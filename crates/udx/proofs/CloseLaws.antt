@@ -1,6 +1,6 @@
 -- A close on the records answers as the model's. Its refusals are the same: the number of state packets queued is the number of places
 -- used, since none is gone while nothing is left to take. One that is not refused has a place for its state packet, and ends the stream
--- as `terminate` does. Assumes nothing.
+-- as `terminate` does.
 use Prim.Native.Nat.{ℕ, _<_}
 use native.Mathlib.Omega.{arith}
 use mathlib.Core.Path.{_≡_, refl, sym, ap, _∙_, subst}

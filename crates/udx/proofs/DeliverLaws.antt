@@ -1,5 +1,5 @@
 -- A delivery on the records answers as the model's. Its refusals are the model's list cut in three: those of a drive, the header, and
--- those that look at it. One that none stops is `handleIncoming` on what is seen. Assumes nothing.
+-- those that look at it. One that none stops is `handleIncoming` on what is seen.
 use Prim.Native.Nat.{ℕ, _+_, _-_, _^_, _≤_, _<_}
 use native.Mathlib.Omega.{arith}
 use mathlib.Core.Path.{_≡_, refl, sym, ap, ap₂, _∙_, subst}

@@ -1,5 +1,5 @@
 -- A drive on the records answers as the model's. Its refusals are the model's list; one that none stops is done where the stream is drained,
--- and else `pollDrive` on what is seen, for which the rules leave room in the queue. Assumes nothing.
+-- and else `pollDrive` on what is seen, for which the rules leave room in the queue.
 use Prim.Native.Nat.{ℕ, _<_}
 use native.Mathlib.Omega.{arith}
 use mathlib.Core.Path.{_≡_, refl, sym, ap, _∙_, subst}

@@ -1,4 +1,4 @@
--- The refusals that a drive and a delivery share are the model's list of a drive. Assumes nothing.
+-- The refusals that a drive and a delivery share are the model's list of a drive.
 use Prim.Native.Nat.{ℕ, _^_, _<_}
 use mathlib.Core.Path.{_≡_, refl, sym, ap, _∙_}
 use mathlib.Core.Option.{none}

@@ -1,4 +1,4 @@
--- Look on the records shows what the model's look shows. Assumes nothing.
+-- Look on the records shows what the model's look shows.
 use mathlib.Core.Path.{_≡_, refl, sym}
 use mathlib.Core.List.{[]}
 use mathlib.Core.Bool.{Bool, true, false, cond, _&&_, _||_, not, true≢false}

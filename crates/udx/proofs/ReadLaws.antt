@@ -1,4 +1,4 @@
--- A read on the records answers as the model's: refused with 1, or what is held in order. Assumes nothing.
+-- A read on the records answers as the model's: refused with 1, or what is held in order.
 use Prim.Native.Nat.{ℕ, zero, suc, _+_, _-_, _%_, _≤_, _<_}
 use native.Mathlib.Omega.{arith}
 use mathlib.Core.Path.{_≡_, refl, sym, ap, _∙_, subst}

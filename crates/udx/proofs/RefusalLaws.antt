@@ -1,5 +1,5 @@
 -- Refusals on the records are the model's on what is seen of them: refusal 1 by the theorem about it, the others because they look at the
--- same numbers. And what a verdict says of the model's answer. Assumes nothing.
+-- same numbers. And what a verdict says of the model's answer.
 use Prim.Native.Nat.{ℕ}
 use native.Mathlib.Omega.{arith}
 use mathlib.Core.Path.{_≡_, refl, sym, ap, subst}

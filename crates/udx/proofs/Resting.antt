@@ -1,5 +1,5 @@
 -- Records that keep the rules, with nothing left to take, are ready for a write (`ready`): the sums over the stored packets are bounded by
--- the slots, and a queue at rest by its distinct numbers. Assumes nothing.
+-- the slots, and a queue at rest by its distinct numbers.
 use Prim.Native.Nat.{ℕ, zero, suc, _+_, _-_, _*_, _%_, _≤_, _<_}
 use native.Mathlib.Omega.{arith}
 use mathlib.Core.Path.{_≡_, refl, sym, _∙_, subst}

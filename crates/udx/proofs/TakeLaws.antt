@@ -1,4 +1,4 @@
--- A take on the records answers as the model's: refused, with nothing left, or the next batch. Assumes nothing.
+-- A take on the records answers as the model's: refused, with nothing left, or the next batch.
 use Prim.Native.Nat.{ℕ, _≤_, _<_}
 use native.Mathlib.Omega.{arith}
 use mathlib.Core.Path.{_≡_, refl, sym, ap, _∙_, subst}

@@ -1,5 +1,4 @@
 -- A write on the records answers as the model's: a refused one because the lists of refusals are the same, the others piece by piece.
--- Assumes nothing.
 use Prim.Native.Nat.{ℕ}
 use native.Mathlib.Omega.{arith}
 use mathlib.Core.Path.{_≡_, refl, sym, ap, _∙_, subst}

@@ -1,5 +1,5 @@
 -- How an answer on the records is the model's: refusal 1 on records that are not laid out as they should be, else the model's answer on
--- what is seen of them. A refused call changes nothing. Assumes nothing.
+-- what is seen of them. A refused call changes nothing.
 use Prim.Native.Nat.{ℕ}
 use mathlib.Core.Path.{_≡_}
 use mathlib.Core.Option.{Option, none, some}

@@ -1,4 +1,4 @@
--- A read on the records. Assumes nothing.
+-- A read on the records.
 use Prim.Native.Nat.{ℕ}
 use mathlib.Core.Path.{_≡_}
 use mathlib.Core.List.{List}

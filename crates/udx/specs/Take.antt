@@ -1,4 +1,4 @@
--- A take on the records. Assumes nothing.
+-- A take on the records.
 use mathlib.Core.Path.{_≡_}
 use lib.ListN.{length}
 use Rattle.model.specs.Lists.{Bytes}

@@ -23,7 +23,12 @@ pub fn close(
     incoming: &[u8],
     headers: &mut [u8],
 ) -> Step
-    ensures { λ r. ⌜ Answers model.close s t (lent (now (sent .entry)) (now (held .entry)) (now (queue .entry)) (now (outgoing .entry)) (now (incoming .entry)) (now (headers .entry))) r (lent (now (sent .entry)) (now (held .entry)) (now (queue .exit)) (now (outgoing .entry)) (now (incoming .entry)) (now (headers .exit))) ⌝ }
+    ensures { λ r. ⌜ Answers model.close s t
+        (lent (now (sent .entry)) (now (held .entry)) (now (queue .entry)) (now (outgoing .entry))
+        (now (incoming .entry)) (now (headers .entry)))
+        r
+        (lent (now (sent .entry)) (now (held .entry)) (now (queue .exit)) (now (outgoing .entry))
+        (now (incoming .entry)) (now (headers .exit))) ⌝ }
 {
     let one = broken(s, t, sent, held, queue, outgoing, incoming, headers);
     match close_verdict(one, s) {

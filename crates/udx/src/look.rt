@@ -18,7 +18,9 @@ pub fn look<'a>(
     incoming: &[u8],
     headers: &'a [u8],
 ) -> &'a [u8]
-    ensures { λ r. ⌜ now r ≡ shownOf s t (lent (now (sent .entry)) (now (held .entry)) (now (queue .entry)) (now (outgoing .entry)) (now (incoming .entry)) (now (headers .entry))) ⌝ }
+    ensures { λ r. ⌜ now r ≡ shownOf s t
+        (lent (now (sent .entry)) (now (held .entry)) (now (queue .entry)) (now (outgoing .entry))
+        (now (incoming .entry)) (now (headers .entry))) ⌝ }
 {
     if broken(s, t, sent, held, queue, outgoing, incoming, headers) {
         return &outgoing[0..0];

@@ -21,7 +21,13 @@ pub fn read(
     headers: &[u8],
     buf: &mut [u8],
 ) -> Step
-    ensures { λ r. ⌜ Gives s t (lent (now (sent .entry)) (now (held .entry)) (now (queue .entry)) (now (outgoing .entry)) (now (incoming .entry)) (now (headers .entry))) (now (buf .entry)) r (lent (now (sent .entry)) (now (held .exit)) (now (queue .entry)) (now (outgoing .entry)) (now (incoming .entry)) (now (headers .entry))) (now (buf .exit)) ⌝ }
+    ensures { λ r. ⌜ Gives s t
+        (lent (now (sent .entry)) (now (held .entry)) (now (queue .entry)) (now (outgoing .entry))
+        (now (incoming .entry)) (now (headers .entry)))
+        (now (buf .entry)) r
+        (lent (now (sent .entry)) (now (held .exit)) (now (queue .entry)) (now (outgoing .entry))
+        (now (incoming .entry)) (now (headers .entry)))
+        (now (buf .exit)) ⌝ }
 {
     if broken(s, t, sent, held, queue, outgoing, incoming, headers) {
         return refused(s, t, Refusal::BrokenRecords);

@@ -23,7 +23,13 @@ pub fn take(
     headers: &[u8],
     buf: &mut [u8],
 ) -> Step
-    ensures { λ r. ⌜ Hands s t (lent (now (sent .entry)) (now (held .entry)) (now (queue .entry)) (now (outgoing .entry)) (now (incoming .entry)) (now (headers .entry))) (now (buf .entry)) r (lent (now (sent .exit)) (now (held .entry)) (now (queue .entry)) (now (outgoing .entry)) (now (incoming .entry)) (now (headers .entry))) (now (buf .exit)) ⌝ }
+    ensures { λ r. ⌜ Hands s t
+        (lent (now (sent .entry)) (now (held .entry)) (now (queue .entry)) (now (outgoing .entry))
+        (now (incoming .entry)) (now (headers .entry)))
+        (now (buf .entry)) r
+        (lent (now (sent .exit)) (now (held .entry)) (now (queue .entry)) (now (outgoing .entry))
+        (now (incoming .entry)) (now (headers .entry)))
+        (now (buf .exit)) ⌝ }
 {
     let one = broken(s, t, sent, held, queue, outgoing, incoming, headers);
     match take_verdict(one, buf.len()) {

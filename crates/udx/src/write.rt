@@ -23,7 +23,12 @@ pub fn write(
     headers: &[u8],
     bytes: &[u8],
 ) -> Step
-    ensures { λ r. ⌜ Answers (model.write (now (bytes .entry))) s t (lent (now (sent .entry)) (now (held .entry)) (now (queue .entry)) (now (outgoing .entry)) (now (incoming .entry)) (now (headers .entry))) r (lent (now (sent .exit)) (now (held .entry)) (now (queue .exit)) (now (outgoing .exit)) (now (incoming .entry)) (now (headers .entry))) ⌝ }
+    ensures { λ r. ⌜ Answers (model.write (now (bytes .entry))) s t
+        (lent (now (sent .entry)) (now (held .entry)) (now (queue .entry)) (now (outgoing .entry))
+        (now (incoming .entry)) (now (headers .entry)))
+        r
+        (lent (now (sent .exit)) (now (held .entry)) (now (queue .exit)) (now (outgoing .exit)) (now (incoming .entry))
+        (now (headers .entry))) ⌝ }
 {
     let one = broken(s, t, sent, held, queue, outgoing, incoming, headers);
     let empty = bytes.len() == 0;

@@ -1,5 +1,5 @@
 -- A call crosses the boundary in one of two ways: refused with 1 for a byte that stands for nothing, or made on the records that the
--- numbers stand for. Assumes nothing.
+-- numbers stand for.
 use mathlib.Core.Path.{_≡_, refl, sym, _∙_}
 use mathlib.Core.Bool.{Bool, true, false, true≢false}
 use Rattle.udx_c_part.specs.declared.Part.{Part}

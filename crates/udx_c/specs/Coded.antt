@@ -1,4 +1,4 @@
--- Headers as plain numbers. Assumes nothing.
+-- Headers as plain numbers.
 use Prim.Native.Nat.{ℕ}
 use mathlib.Core.Path.{_≡_}
 use Rattle.model.specs.Lists.{Bytes}

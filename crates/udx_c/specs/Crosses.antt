@@ -1,5 +1,4 @@
 -- A call that crosses the boundary is the call on the records that its numbers stand for, and its answer is that call's as numbers.
--- Assumes nothing.
 use Prim.Native.Nat.{ℕ}
 use mathlib.Core.Path.{_≡_}
 use mathlib.Core.Bool.{true, false}

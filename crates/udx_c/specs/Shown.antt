@@ -1,5 +1,5 @@
 -- Look for C: the part of a store by its numbers (`Looks`), and that its bytes are those that look shows (`LooksShown`, proved in
--- proofs/ShownLaws.antt). Assumes nothing.
+-- proofs/ShownLaws.antt).
 use Prim.Native.Nat.{_+_, _≤_}
 use mathlib.Core.Path.{_≡_}
 use mathlib.Core.Bool.{true, false, cond}

@@ -23,7 +23,12 @@ pub extern "C" fn udx_close(
     incoming: &[u8],
     headers: &mut [u8],
 ) -> FlatStep
-    ensures { λ r. ⌜ Crosses (Answers model.close) stream totals (lent (now (sent .entry)) (now (held .entry)) (now (queue .entry)) (now (outgoing .entry)) (now (incoming .entry)) (now (headers .entry))) r (lent (now (sent .entry)) (now (held .entry)) (now (queue .exit)) (now (outgoing .entry)) (now (incoming .entry)) (now (headers .exit))) ⌝ }
+    ensures { λ r. ⌜ Crosses (Answers model.close) stream totals
+        (lent (now (sent .entry)) (now (held .entry)) (now (queue .entry)) (now (outgoing .entry))
+        (now (incoming .entry)) (now (headers .entry)))
+        r
+        (lent (now (sent .entry)) (now (held .entry)) (now (queue .exit)) (now (outgoing .entry))
+        (now (incoming .entry)) (now (headers .exit))) ⌝ }
 {
     let ending = stream.ending;
     if strange(ending) {

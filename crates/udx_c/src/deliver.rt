@@ -26,7 +26,12 @@ pub extern "C" fn udx_deliver(
     datagram: &[u8],
     clock: u64,
 ) -> FlatStep
-    ensures { λ r. ⌜ Crosses (Answers (model_receiving.deliver (now (datagram .entry)) clock)) stream totals (lent (now (sent .entry)) (now (held .entry)) (now (queue .entry)) (now (outgoing .entry)) (now (incoming .entry)) (now (headers .entry))) r (lent (now (sent .exit)) (now (held .exit)) (now (queue .exit)) (now (outgoing .entry)) (now (incoming .exit)) (now (headers .exit))) ⌝ }
+    ensures { λ r. ⌜ Crosses (Answers (model_receiving.deliver (now (datagram .entry)) clock)) stream totals
+        (lent (now (sent .entry)) (now (held .entry)) (now (queue .entry)) (now (outgoing .entry))
+        (now (incoming .entry)) (now (headers .entry)))
+        r
+        (lent (now (sent .exit)) (now (held .exit)) (now (queue .exit)) (now (outgoing .entry)) (now (incoming .exit))
+        (now (headers .exit))) ⌝ }
 {
     let ending = stream.ending;
     if strange(ending) {

@@ -25,7 +25,12 @@ pub extern "C" fn udx_drive(
     headers: &mut [u8],
     clock: u64,
 ) -> FlatStep
-    ensures { λ r. ⌜ Crosses (Answers (model_driving.drive clock)) stream totals (lent (now (sent .entry)) (now (held .entry)) (now (queue .entry)) (now (outgoing .entry)) (now (incoming .entry)) (now (headers .entry))) r (lent (now (sent .exit)) (now (held .entry)) (now (queue .exit)) (now (outgoing .entry)) (now (incoming .entry)) (now (headers .exit))) ⌝ }
+    ensures { λ r. ⌜ Crosses (Answers (model_driving.drive clock)) stream totals
+        (lent (now (sent .entry)) (now (held .entry)) (now (queue .entry)) (now (outgoing .entry))
+        (now (incoming .entry)) (now (headers .entry)))
+        r
+        (lent (now (sent .exit)) (now (held .entry)) (now (queue .exit)) (now (outgoing .entry)) (now (incoming .entry))
+        (now (headers .exit))) ⌝ }
 {
     let ending = stream.ending;
     if strange(ending) {

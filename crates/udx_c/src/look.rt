@@ -52,7 +52,10 @@ pub extern "C" fn udx_look(
     incoming: &[u8],
     headers: &[u8],
 ) -> FlatPart
-    ensures { λ r. ⌜ Looks stream totals (lent (now (sent .entry)) (now (held .entry)) (now (queue .entry)) (now (outgoing .entry)) (now (incoming .entry)) (now (headers .entry))) r ⌝ }
+    ensures { λ r. ⌜ Looks stream totals
+        (lent (now (sent .entry)) (now (held .entry)) (now (queue .entry)) (now (outgoing .entry))
+        (now (incoming .entry)) (now (headers .entry)))
+        r ⌝ }
 {
     let ending = stream.ending;
     if strange(ending) {

@@ -14,7 +14,8 @@ pub extern "C" fn udx_open(
     incoming: &[u8],
     headers: &[u8],
 ) -> FlatStep
-    ensures { λ r. ⌜ FlatOpens local remote segments clock (now (outgoing .entry)) (now (incoming .entry)) (now (headers .entry)) r ⌝ }
+    ensures { λ r. ⌜ FlatOpens local remote segments clock (now (outgoing .entry)) (now (incoming .entry))
+        (now (headers .entry)) r ⌝ }
 {
     let c = Nanos(clock);
     let a = udx::open::open(local, remote, segments, c, outgoing, incoming, headers);

@@ -26,7 +26,14 @@ pub extern "C" fn udx_read(
     headers: &[u8],
     buf: &mut [u8],
 ) -> FlatStep
-    ensures { λ r. ⌜ (Crosses (λ s t l x m. Gives s t l (now (buf .entry)) x m (now (buf .exit))) stream totals (lent (now (sent .entry)) (now (held .entry)) (now (queue .entry)) (now (outgoing .entry)) (now (incoming .entry)) (now (headers .entry))) r (lent (now (sent .entry)) (now (held .exit)) (now (queue .entry)) (now (outgoing .entry)) (now (incoming .entry)) (now (headers .entry)))) × (isStrange (stream .ending) ≡ true → now (buf .exit) ≡ now (buf .entry)) ⌝ }
+    ensures { λ r. ⌜
+        (Crosses (λ s t l x m. Gives s t l (now (buf .entry)) x m (now (buf .exit))) stream totals
+        (lent (now (sent .entry)) (now (held .entry)) (now (queue .entry)) (now (outgoing .entry))
+        (now (incoming .entry)) (now (headers .entry)))
+        r
+        (lent (now (sent .entry)) (now (held .exit)) (now (queue .entry)) (now (outgoing .entry))
+        (now (incoming .entry)) (now (headers .entry))))
+        × (isStrange (stream .ending) ≡ true → now (buf .exit) ≡ now (buf .entry)) ⌝ }
 {
     let ending = stream.ending;
     if strange(ending) {

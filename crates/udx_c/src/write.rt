@@ -24,7 +24,12 @@ pub extern "C" fn udx_write(
     headers: &[u8],
     bytes: &[u8],
 ) -> FlatStep
-    ensures { λ r. ⌜ Crosses (Answers (model.write (now (bytes .entry)))) stream totals (lent (now (sent .entry)) (now (held .entry)) (now (queue .entry)) (now (outgoing .entry)) (now (incoming .entry)) (now (headers .entry))) r (lent (now (sent .exit)) (now (held .entry)) (now (queue .exit)) (now (outgoing .exit)) (now (incoming .entry)) (now (headers .entry))) ⌝ }
+    ensures { λ r. ⌜ Crosses (Answers (model.write (now (bytes .entry)))) stream totals
+        (lent (now (sent .entry)) (now (held .entry)) (now (queue .entry)) (now (outgoing .entry))
+        (now (incoming .entry)) (now (headers .entry)))
+        r
+        (lent (now (sent .exit)) (now (held .entry)) (now (queue .exit)) (now (outgoing .exit)) (now (incoming .entry))
+        (now (headers .entry))) ⌝ }
 {
     let ending = stream.ending;
     if strange(ending) {

@@ -1,4 +1,4 @@
--- Numbers that a call handed back stand for its records (`ComesBack`): each enum comes back from its byte. Assumes nothing.
+-- Numbers that a call handed back stand for its records (`ComesBack`): each enum comes back from its byte.
 use mathlib.Core.Path.{_≡_, refl}
 use mathlib.Core.Bool.{Bool, true, false, cond}
 use lib.Dec.{eqb, ltb}

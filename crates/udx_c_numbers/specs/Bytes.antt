@@ -1,4 +1,4 @@
--- The numbers that stand for enums and flags at the boundary; include/udx.h has the same list. Assumes nothing.
+-- The numbers that stand for enums and flags at the boundary; include/udx.h has the same list.
 use Prim.Native.Nat.{ℕ}
 use mathlib.Core.Bool.{Bool, cond, _||_}
 use lib.Dec.{eqb, ltb}

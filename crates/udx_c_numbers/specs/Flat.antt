@@ -1,4 +1,4 @@
--- Records and steps as plain numbers, group by group. Assumes nothing.
+-- Records and steps as plain numbers, group by group.
 use Rattle.records.specs.declared.Ids.{Ids}
 use Rattle.records.specs.declared.Sender.{Sender}
 use Rattle.records.specs.declared.Receiver.{Receiver}

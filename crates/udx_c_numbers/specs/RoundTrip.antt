@@ -1,4 +1,4 @@
--- What a call hands back stands for just the records that it was made from: the next call goes on from there. Assumes nothing.
+-- What a call hands back stands for just the records that it was made from: the next call goes on from there.
 use mathlib.Core.Path.{_≡_}
 use mathlib.Core.Bool.{false}
 use Rattle.records.specs.declared.Stream.{Stream}

@@ -1,5 +1,5 @@
 -- Look's part: empty in place of refusal 1 as the code tests it (`looked-broken`), else what the search finds (`looked-found`); and the
--- bytes there are those that look shows (`looked-shown`), by induction over the entries' words. Assumes nothing.
+-- bytes there are those that look shows (`looked-shown`), by induction over the entries' words.
 use Prim.Native.Nat.{ℕ, _+_, _%_, _≤_, _<_}
 use native.Mathlib.Omega.{arith}
 use mathlib.Core.Path.{_≡_, refl, ap, sym, _∙_}

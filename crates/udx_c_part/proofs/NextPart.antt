@@ -1,5 +1,5 @@
 -- The search for the next datagram's part: while every entry passed is of a packet that has left, the first part of all entries is the
--- first part of the rest. Assumes nothing.
+-- first part of the rest.
 use Prim.Native.Nat.{ℕ, _+_, _%_, _≤_, _<_}
 use native.Mathlib.Omega.{arith}
 use mathlib.Core.Path.{_≡_, refl, ap, sym, _∙_}

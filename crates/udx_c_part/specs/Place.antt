@@ -1,5 +1,5 @@
 -- Look's answer by its numbers: the part of a lent store where the next datagram is (`lookedPart`), beside the model's `look` line by
--- line; and that its bytes are those that look shows (`LookedShown`, proved in proofs/Looked.antt). Assumes nothing.
+-- line; and that its bytes are those that look shows (`LookedShown`, proved in proofs/Looked.antt).
 use Prim.Native.Nat.{ℕ, _+_, _*_, _%_, _≤_}
 use mathlib.Core.Path.{_≡_}
 use mathlib.Core.List.{List, [], _∷_}

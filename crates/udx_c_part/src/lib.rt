@@ -89,7 +89,9 @@ pub fn look_place(
     incoming: &[u8],
     headers: &[u8],
 ) -> Part
-    ensures { λ r. ⌜ r ≡ lookedPart s t (lent (now (sent .entry)) (now (held .entry)) (now (queue .entry)) (now (outgoing .entry)) (now (incoming .entry)) (now (headers .entry))) ⌝ }
+    ensures { λ r. ⌜ r ≡ lookedPart s t
+        (lent (now (sent .entry)) (now (held .entry)) (now (queue .entry)) (now (outgoing .entry))
+        (now (incoming .entry)) (now (headers .entry))) ⌝ }
 {
     if broken(s, t, sent, held, queue, outgoing, incoming, headers) {
         return no_part();

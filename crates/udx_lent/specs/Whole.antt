@@ -1,4 +1,4 @@
--- An answer and the totals after it are the step of the call below. Assumes nothing.
+-- An answer and the totals after it are the step of the call below.
 use Rattle.records.specs.declared.Totals.{Totals}
 use Rattle.udx_steps.specs.declared.step.Step.{Step}
 use Rattle.udx_lent.specs.declared.answer.Answer.{Answer}

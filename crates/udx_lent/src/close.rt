@@ -17,7 +17,12 @@ pub fn close(
     incoming: &[u8],
     headers: &mut [u8],
 ) -> Answer
-    ensures { λ r. ⌜ Answers model.close s (now (t .entry)) (lent (now (sent .entry)) (now (held .entry)) (now (queue .entry)) (now (outgoing .entry)) (now (incoming .entry)) (now (headers .entry))) (whole r (now (t .exit))) (lent (now (sent .entry)) (now (held .entry)) (now (queue .exit)) (now (outgoing .entry)) (now (incoming .entry)) (now (headers .exit))) ⌝ }
+    ensures { λ r. ⌜ Answers model.close s (now (t .entry))
+        (lent (now (sent .entry)) (now (held .entry)) (now (queue .entry)) (now (outgoing .entry))
+        (now (incoming .entry)) (now (headers .entry)))
+        (whole r (now (t .exit)))
+        (lent (now (sent .entry)) (now (held .entry)) (now (queue .exit)) (now (outgoing .entry))
+        (now (incoming .entry)) (now (headers .exit))) ⌝ }
 {
     let r = udx::close::close(s, *t, sent, held, queue, outgoing, incoming, headers);
     *t = r.totals;

@@ -20,7 +20,12 @@ pub fn deliver(
     datagram: &[u8],
     clock: Nanos,
 ) -> Answer
-    ensures { λ r. ⌜ Answers (model.deliver (now (datagram .entry)) (clock .0)) s (now (t .entry)) (lent (now (sent .entry)) (now (held .entry)) (now (queue .entry)) (now (outgoing .entry)) (now (incoming .entry)) (now (headers .entry))) (whole r (now (t .exit))) (lent (now (sent .exit)) (now (held .exit)) (now (queue .exit)) (now (outgoing .entry)) (now (incoming .exit)) (now (headers .exit))) ⌝ }
+    ensures { λ r. ⌜ Answers (model.deliver (now (datagram .entry)) (clock .0)) s (now (t .entry))
+        (lent (now (sent .entry)) (now (held .entry)) (now (queue .entry)) (now (outgoing .entry))
+        (now (incoming .entry)) (now (headers .entry)))
+        (whole r (now (t .exit)))
+        (lent (now (sent .exit)) (now (held .exit)) (now (queue .exit)) (now (outgoing .entry)) (now (incoming .exit))
+        (now (headers .exit))) ⌝ }
 {
     let r = udx::deliver::deliver(
         s,

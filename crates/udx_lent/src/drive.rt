@@ -19,7 +19,12 @@ pub fn drive(
     headers: &mut [u8],
     clock: Nanos,
 ) -> Answer
-    ensures { λ r. ⌜ Answers (model.drive (clock .0)) s (now (t .entry)) (lent (now (sent .entry)) (now (held .entry)) (now (queue .entry)) (now (outgoing .entry)) (now (incoming .entry)) (now (headers .entry))) (whole r (now (t .exit))) (lent (now (sent .exit)) (now (held .entry)) (now (queue .exit)) (now (outgoing .entry)) (now (incoming .entry)) (now (headers .exit))) ⌝ }
+    ensures { λ r. ⌜ Answers (model.drive (clock .0)) s (now (t .entry))
+        (lent (now (sent .entry)) (now (held .entry)) (now (queue .entry)) (now (outgoing .entry))
+        (now (incoming .entry)) (now (headers .entry)))
+        (whole r (now (t .exit)))
+        (lent (now (sent .exit)) (now (held .entry)) (now (queue .exit)) (now (outgoing .entry)) (now (incoming .entry))
+        (now (headers .exit))) ⌝ }
 {
     let r = udx::drive::drive(s, *t, sent, held, queue, outgoing, incoming, headers, clock);
     *t = r.totals;

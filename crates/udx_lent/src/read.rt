@@ -17,7 +17,13 @@ pub fn read(
     headers: &[u8],
     buf: &mut [u8],
 ) -> Answer
-    ensures { λ r. ⌜ Gives s (now (t .entry)) (lent (now (sent .entry)) (now (held .entry)) (now (queue .entry)) (now (outgoing .entry)) (now (incoming .entry)) (now (headers .entry))) (now (buf .entry)) (whole r (now (t .exit))) (lent (now (sent .entry)) (now (held .exit)) (now (queue .entry)) (now (outgoing .entry)) (now (incoming .entry)) (now (headers .entry))) (now (buf .exit)) ⌝ }
+    ensures { λ r. ⌜ Gives s (now (t .entry))
+        (lent (now (sent .entry)) (now (held .entry)) (now (queue .entry)) (now (outgoing .entry))
+        (now (incoming .entry)) (now (headers .entry)))
+        (now (buf .entry)) (whole r (now (t .exit)))
+        (lent (now (sent .entry)) (now (held .exit)) (now (queue .entry)) (now (outgoing .entry))
+        (now (incoming .entry)) (now (headers .entry)))
+        (now (buf .exit)) ⌝ }
 {
     let r = udx::read::read(s, *t, sent, held, queue, outgoing, incoming, headers, buf);
     *t = r.totals;

@@ -17,7 +17,13 @@ pub fn take(
     headers: &[u8],
     buf: &mut [u8],
 ) -> Answer
-    ensures { λ r. ⌜ Hands s (now (t .entry)) (lent (now (sent .entry)) (now (held .entry)) (now (queue .entry)) (now (outgoing .entry)) (now (incoming .entry)) (now (headers .entry))) (now (buf .entry)) (whole r (now (t .exit))) (lent (now (sent .exit)) (now (held .entry)) (now (queue .entry)) (now (outgoing .entry)) (now (incoming .entry)) (now (headers .entry))) (now (buf .exit)) ⌝ }
+    ensures { λ r. ⌜ Hands s (now (t .entry))
+        (lent (now (sent .entry)) (now (held .entry)) (now (queue .entry)) (now (outgoing .entry))
+        (now (incoming .entry)) (now (headers .entry)))
+        (now (buf .entry)) (whole r (now (t .exit)))
+        (lent (now (sent .exit)) (now (held .entry)) (now (queue .entry)) (now (outgoing .entry))
+        (now (incoming .entry)) (now (headers .entry)))
+        (now (buf .exit)) ⌝ }
 {
     let r = udx::take::take(s, *t, sent, held, queue, outgoing, incoming, headers, buf);
     *t = r.totals;

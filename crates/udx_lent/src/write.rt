@@ -18,7 +18,12 @@ pub fn write(
     headers: &[u8],
     bytes: &[u8],
 ) -> Answer
-    ensures { λ r. ⌜ Answers (model.write (now (bytes .entry))) s (now (t .entry)) (lent (now (sent .entry)) (now (held .entry)) (now (queue .entry)) (now (outgoing .entry)) (now (incoming .entry)) (now (headers .entry))) (whole r (now (t .exit))) (lent (now (sent .exit)) (now (held .entry)) (now (queue .exit)) (now (outgoing .exit)) (now (incoming .entry)) (now (headers .entry))) ⌝ }
+    ensures { λ r. ⌜ Answers (model.write (now (bytes .entry))) s (now (t .entry))
+        (lent (now (sent .entry)) (now (held .entry)) (now (queue .entry)) (now (outgoing .entry))
+        (now (incoming .entry)) (now (headers .entry)))
+        (whole r (now (t .exit)))
+        (lent (now (sent .exit)) (now (held .entry)) (now (queue .exit)) (now (outgoing .exit)) (now (incoming .entry))
+        (now (headers .entry))) ⌝ }
 {
     let r = udx::write::write(s, *t, sent, held, queue, outgoing, incoming, headers, bytes);
     *t = r.totals;

@@ -1,4 +1,4 @@
--- The refusals of each call on the records, in 01's order. Assumes nothing.
+-- The refusals of each call on the records, in 01's order.
 use Prim.Native.Nat.{ℕ, _+_, _^_}
 use mathlib.Core.Option.{Option, none, some}
 use mathlib.Core.Bool.{Bool, cond, _&&_, _||_, not}

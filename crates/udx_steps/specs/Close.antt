@@ -1,4 +1,4 @@
--- A close that is not refused, on the records. Assumes nothing.
+-- A close that is not refused, on the records.
 use Rattle.error.specs.declared.Outcome.the-variants.{Ready}
 use Rattle.records.specs.declared.Ending.{Ending}
 use Rattle.records.specs.declared.Stream.{Stream}

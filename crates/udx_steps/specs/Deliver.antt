@@ -1,4 +1,4 @@
--- A delivery that is not refused, on the records. Assumes nothing.
+-- A delivery that is not refused, on the records.
 use Rattle.error.specs.declared.Outcome.the-variants.{Ready}
 use Rattle.deliver_parts.specs.declared.Delivered.{Delivered}
 use Rattle.udx_steps.specs.declared.step.Step.{Step}

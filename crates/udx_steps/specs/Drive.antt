@@ -1,4 +1,4 @@
--- A drive that is not refused, on the records: done, or polled. Assumes nothing.
+-- A drive that is not refused, on the records: done, or polled.
 use Prim.Native.Nat.{ℕ}
 use mathlib.Core.Bool.{true}
 use Rattle.error.specs.declared.Outcome.the-variants.{Ready, Done}

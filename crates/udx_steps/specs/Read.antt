@@ -1,4 +1,4 @@
--- What a read answers, and its step. Assumes nothing.
+-- What a read answers, and its step.
 use mathlib.Core.Bool.{Bool, cond}
 use Rattle.error.specs.Answers.{errorOr}
 use Rattle.error.specs.declared.UdxError.{UdxError}

@@ -1,4 +1,4 @@
--- The step of a refused call. Assumes nothing.
+-- The step of a refused call.
 use Rattle.error.specs.declared.Refusal.{Refusal}
 use Rattle.error.specs.declared.Outcome.the-variants.{Refused}
 use Rattle.records.specs.declared.Stream.{Stream}

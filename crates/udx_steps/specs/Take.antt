@@ -1,4 +1,4 @@
--- The steps of a take. Assumes nothing.
+-- The steps of a take.
 use Rattle.error.specs.declared.Outcome.the-variants.{Ready, Nothing}
 use Rattle.model.specs.Driving.{take}
 use Rattle.records.specs.declared.Stream.{Stream}

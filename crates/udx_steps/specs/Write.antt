@@ -1,4 +1,4 @@
--- A write that is not refused, on the records. Assumes nothing.
+-- A write that is not refused, on the records.
 use Prim.Native.Nat.{ℕ}
 use mathlib.Core.Bool.{Bool, cond, _||_}
 use lib.Dec.{ltb}

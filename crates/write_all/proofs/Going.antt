@@ -1,6 +1,6 @@
 -- The loop of a write on the records (`Going`): what went, joined to what the model still does with the bytes that are left, is what it
 -- does with all of them. It holds before the first piece, a sent piece keeps it, and where the loop stops the model's stops too. The
--- bounds grow with the number of packets, of which there are 32 at most. Assumes nothing.
+-- bounds grow with the number of packets, of which there are 32 at most.
 use Prim.Native.Nat.{ℕ, _+_, _-_, _*_, _%_, _≤_, _<_, min}
 use native.Mathlib.Nat.{add-zero, zero-add}
 use native.Mathlib.Omega.{arith}

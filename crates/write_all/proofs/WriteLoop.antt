@@ -1,6 +1,6 @@
 -- The model's loop of a write without its fuel (`writeAll`): any fuel that covers the bytes does the same, since each turn takes a byte
 -- or more. It stops where no byte is left or the next piece does not go, and else sends that piece and goes on. The piece that the code
--- cuts is the model's. Assumes nothing.
+-- cuts is the model's.
 use Prim.Native.Nat.{ℕ, zero, suc, _+_, _-_, _≤_, _<_, min}
 use native.Mathlib.Omega.{arith}
 use mathlib.Core.Path.{_≡_, refl, ap, sym, _∙_}

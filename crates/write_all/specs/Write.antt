@@ -1,4 +1,4 @@
--- A write on the records: all its pieces, as the model's loop sends them on what is seen. Assumes nothing.
+-- A write on the records: all its pieces, as the model's loop sends them on what is seen.
 use Prim.Native.Nat.{ℕ, _+_, _-_, _≤_, _<_}
 use mathlib.Core.Path.{_≡_}
 use mathlib.Core.List.{List}

@@ -25,7 +25,8 @@ pub fn write_pieces(
     bytes: &[u8],
 ) -> Written
     requires { ⌜ Ready o (length (now outgoing)) ⌝ }
-    ensures { λ r. ⌜ Writes o remote ack (now (bytes .entry)) (now (sent .entry)) (now (queue .entry)) (now (outgoing .entry)) r (now (sent .exit)) (now (queue .exit)) (now (outgoing .exit)) ⌝ }
+    ensures { λ r. ⌜ Writes o remote ack (now (bytes .entry)) (now (sent .entry)) (now (queue .entry))
+        (now (outgoing .entry)) r (now (sent .exit)) (now (queue .exit)) (now (outgoing .exit)) ⌝ }
 {
     word_count(sent);
     word_count(queue);

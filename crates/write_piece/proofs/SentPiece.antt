@@ -1,6 +1,6 @@
 -- One sent piece on the records is the model's: what is seen after `SendsPiece` is `sendDataPacket` of what was seen before. The sender
 -- is the law of a new packet in the outgoing store, the queue that of a pushed entry, the totals are the same sums. The queue stays as it
--- is laid out, and the store as it was but for the packet's bytes. Assumes nothing.
+-- is laid out, and the store as it was but for the packet's bytes.
 use Prim.Native.Nat.{ℕ, suc, _+_, _*_, _%_, _≤_, _<_}
 use native.Mathlib.Numerals.{add-one}
 use native.Mathlib.Omega.{arith}

@@ -1,5 +1,5 @@
 -- One piece on the records: its header, its packet, its queue entry, and the numbers after it; and a stream and lent words and bytes with
--- what it changes. Assumes nothing.
+-- what it changes.
 use Prim.Native.Nat.{ℕ, _+_, _-_, _*_, _%_, _^_, _<_, _≤_}
 use mathlib.Core.Path.{_≡_}
 use mathlib.Core.List.{List, _++_}

@@ -157,7 +157,8 @@ pub fn send_data_packet(
     piece: &[u8],
 ) -> Outbox
     requires { ⌜ Room o (length (now outgoing)) (length (now piece)) ⌝ }
-    ensures { λ r. ⌜ SendsPiece o remote ack (now (piece .entry)) (now (sent .entry)) (now (queue .entry)) (now (outgoing .entry)) r (now (sent .exit)) (now (queue .exit)) (now (outgoing .exit)) ⌝ }
+    ensures { λ r. ⌜ SendsPiece o remote ack (now (piece .entry)) (now (sent .entry)) (now (queue .entry))
+        (now (outgoing .entry)) r (now (sent .exit)) (now (queue .exit)) (now (outgoing .exit)) ⌝ }
 {
     let n = o.sender.seq;
     let h = create_header(UDX_HEADER_DATA, remote, n, ack);

@@ -1,5 +1,4 @@
 -- `close_state::counted_state` meets its contract: the sum that wraps is the callee's.
--- Assumes nothing.
 use borrow.Author.Needs.{needs}
 use Rattle.close_state.proofs.counted_state.Statement.{statement}
 use Rattle.close_state.proofs.counted_state.Tie as tie

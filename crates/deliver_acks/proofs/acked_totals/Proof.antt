@@ -1,4 +1,4 @@
--- `deliver_acks::acked_totals` meets its contract. Assumes nothing.
+-- `deliver_acks::acked_totals` meets its contract.
 use mathlib.Core.Path.{_≡_}
 use borrow.Author.Needs.{needs}
 use Rattle.deliver_acks.proofs.acked_totals.Statement.{statement}

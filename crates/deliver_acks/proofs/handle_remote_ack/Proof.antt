@@ -1,5 +1,4 @@
 -- `deliver_acks::handle_remote_ack` meets its contract: the two laws of AckOne, for a packet that is stored and one that is not.
--- Assumes nothing.
 use mathlib.Core.Path.{sym, _∙_}
 use borrow.Author.Needs.{needs}
 use Rattle.deliver_acks.proofs.AckOne.{acks-stored, acks-absent}

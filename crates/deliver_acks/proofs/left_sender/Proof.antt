@@ -1,4 +1,4 @@
--- `deliver_acks::left_sender` meets its contract. Assumes nothing.
+-- `deliver_acks::left_sender` meets its contract.
 use borrow.Author.Needs.{needs}
 use Rattle.deliver_acks.proofs.left_sender.Statement.{statement}
 use Rattle.deliver_acks.proofs.left_sender.Tie as tie

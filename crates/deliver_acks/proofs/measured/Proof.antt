@@ -1,4 +1,4 @@
--- `deliver_acks::measured` meets its contract: a sample is at most the clock, so it is below 2^60. Assumes nothing.
+-- `deliver_acks::measured` meets its contract: a sample is at most the clock, so it is below 2^60.
 use native.Mathlib.Omega.{arith}
 use mathlib.Core.Path.{refl, ap, _∙_}
 use borrow.Author.Needs.{needs}

@@ -1,4 +1,4 @@
--- `deliver_all::before_data` meets its contract: the parts one after another. Assumes nothing.
+-- `deliver_all::before_data` meets its contract: the parts one after another.
 use Rattle.deliver_all.proofs.Whole.{begins, queue-same}
 use mathlib.Core.Path.{sym, ap, subst}
 use borrow.Author.Needs.{needs}

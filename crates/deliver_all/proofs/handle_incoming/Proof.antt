@@ -1,4 +1,4 @@
--- `deliver_all::handle_incoming` meets its contract: the parts one after another. Assumes nothing.
+-- `deliver_all::handle_incoming` meets its contract: the parts one after another.
 use Rattle.deliver_all.proofs.Whole.{data-able, data-takes, handles}
 use mathlib.Core.Path.{sym, _∙_}
 use borrow.Author.Needs.{needs}

@@ -1,5 +1,5 @@
 -- `deliver_data::absorb` meets its contract: DATA that is older than ack only moves ack, other DATA is held first. Each is one law, of what
--- the calls ensure. Assumes nothing.
+-- the calls ensure.
 use borrow.Author.Needs.{needs}
 use Rattle.deliver_data.proofs.AbsorbLaws.{absorbs-old, absorbs-new}
 use Rattle.deliver_data.proofs.absorb.Statement.{statement}

@@ -1,4 +1,4 @@
--- `deliver_notes::counted_data` meets its contract. Assumes nothing.
+-- `deliver_notes::counted_data` meets its contract.
 use borrow.Author.Needs.{needs}
 use Rattle.deliver_notes.proofs.counted_data.Statement.{statement}
 use Rattle.deliver_notes.proofs.counted_data.Tie as tie

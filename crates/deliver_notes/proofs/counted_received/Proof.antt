@@ -1,4 +1,4 @@
--- `deliver_notes::counted_received` meets its contract. Assumes nothing.
+-- `deliver_notes::counted_received` meets its contract.
 use borrow.Author.Needs.{needs}
 use Rattle.deliver_notes.proofs.counted_received.Statement.{statement}
 use Rattle.deliver_notes.proofs.counted_received.Tie as tie

@@ -1,4 +1,4 @@
--- `deliver_notes::window` meets its contract. Assumes nothing.
+-- `deliver_notes::window` meets its contract.
 use borrow.Author.Needs.{needs}
 use borrow.Author.Tests.{lt-ltb, le-ltb}
 use Rattle.deliver_notes.proofs.window.Statement.{statement}

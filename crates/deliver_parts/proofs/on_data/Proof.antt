@@ -1,4 +1,4 @@
--- `deliver_parts::on_data` meets its contract: DATA is held and a state packet queued, and without DATA nothing changes. Assumes nothing.
+-- `deliver_parts::on_data` meets its contract: DATA is held and a state packet queued, and without DATA nothing changes.
 use Rattle.deliver_parts.proofs.Parts.{took, not-taken}
 use mathlib.Core.Path.{sym, _∙_}
 use borrow.Author.Needs.{needs}

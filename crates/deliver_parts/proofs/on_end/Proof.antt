@@ -1,4 +1,4 @@
--- `deliver_parts::on_end` meets its contract: END terminates, and without it nothing changes. Assumes nothing.
+-- `deliver_parts::on_end` meets its contract: END terminates, and without it nothing changes.
 use Rattle.deliver_parts.proofs.Parts.{ended, not-ended}
 use mathlib.Core.Path.{sym, _∙_}
 use borrow.Author.Needs.{needs}

@@ -1,5 +1,4 @@
 -- `drive_drain::any_stored` meets its contract. The loop's invariant is `Searching`: none of the numbers passed is stored.
--- Assumes nothing.
 use Prim.Native.Nat.{_-_}
 use mathlib.Core.Path.{sym, _∙_}
 use borrow.Author.Needs.{needs}

@@ -1,4 +1,4 @@
--- `drive_drain::left_to_take` meets its contract: the law of the queue at the end of a drive. Assumes nothing.
+-- `drive_drain::left_to_take` meets its contract: the law of the queue at the end of a drive.
 use Rattle.drive_drain.proofs.Drain.{leaves}
 use Rattle.drive_drain.proofs.left_to_take.Statement.{statement}
 use Rattle.drive_drain.proofs.left_to_take.Tie as tie

@@ -1,4 +1,4 @@
--- `drive_settle::handle_incoming_max_remote_ack` meets its contract: the numbers, then the deadline. Assumes nothing.
+-- `drive_settle::handle_incoming_max_remote_ack` meets its contract: the numbers, then the deadline.
 use borrow.Author.Needs.{needs}
 use Rattle.drive_settle.proofs.SettleAll.{settled}
 use Rattle.drive_settle.proofs.handle_incoming_max_remote_ack.Statement.{statement}

@@ -1,4 +1,4 @@
--- `drive_timeouts::consider_lost` meets its contract: the timer, the window, and the pass over the packets. Assumes nothing.
+-- `drive_timeouts::consider_lost` meets its contract: the timer, the window, and the pass over the packets.
 use borrow.Author.Needs.{needs}
 use Rattle.drive_timeouts.proofs.TimeOut.{shrunk-stored, loses}
 use Rattle.drive_timeouts.proofs.consider_lost.Statement.{statement}

@@ -1,4 +1,4 @@
--- `drive_timeouts::poll_check_timeouts` meets its contract: not due, all packets lost, or one failed. Assumes nothing.
+-- `drive_timeouts::poll_check_timeouts` meets its contract: not due, all packets lost, or one failed.
 use mathlib.Core.Path.{subst}
 use borrow.Author.Needs.{needs}
 use Rattle.drive_timer.specs.Timer.{IsDue}

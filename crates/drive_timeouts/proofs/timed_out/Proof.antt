@@ -1,4 +1,4 @@
--- `drive_timeouts::timed_out` meets its contract: the law of `terminate`. Assumes nothing.
+-- `drive_timeouts::timed_out` meets its contract: the law of `terminate`.
 use borrow.Author.Needs.{needs}
 use Rattle.drive_timeouts.proofs.TimeOut.{times-out}
 use Rattle.drive_timeouts.proofs.timed_out.Statement.{statement}

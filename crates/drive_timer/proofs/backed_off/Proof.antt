@@ -1,4 +1,4 @@
--- `drive_timer::backed_off` meets its contract: the callee's deadline is the model's. Assumes nothing.
+-- `drive_timer::backed_off` meets its contract: the callee's deadline is the model's.
 use borrow.Author.Needs.{needs}
 use Rattle.model.specs.Driving.{backedOff}
 use Rattle.drive_timer.proofs.backed_off.Statement.{statement}

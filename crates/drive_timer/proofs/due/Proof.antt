@@ -1,4 +1,4 @@
--- `drive_timer::due` meets its contract: each branch has decided the first test. Assumes nothing.
+-- `drive_timer::due` meets its contract: each branch has decided the first test.
 use Rattle.drive_timer.proofs.TimerLaws.{is-due, not-due}
 use Rattle.drive_timer.proofs.due.Statement.{statement}
 use Rattle.drive_timer.proofs.due.Tie as tie

@@ -1,5 +1,4 @@
 -- `error::number` meets its contract: each arm of the match gives the number that `numberOf` gives for its case.
--- Assumes nothing.
 use borrow.Author.Needs.{needs}
 use Rattle.error.proofs.number.Statement.{statement}
 use Rattle.error.proofs.number.Tie as tie

@@ -1,5 +1,4 @@
 -- `error::refuse_if` meets its contract: the refusal where it applies, else the later ones.
--- Assumes nothing.
 use mathlib.Core.Path.{refl}
 use borrow.Author.Needs.{needs}
 use Rattle.error.proofs.refuse_if.Statement.{statement}

@@ -1,5 +1,5 @@
 -- `deliver_data::read_next` meets its contract. The loop's invariant is `Going`, with the buffer's length; what is left to top falls. Each
--- way out and the turn are one law each, of what the turn's calls and tests say. Assumes nothing.
+-- way out and the turn are one law each, of what the turn's calls and tests say.
 use borrow.Author.Needs.{needs}
 use Prim.Native.Nat.{_-_}
 use native.Mathlib.Omega.{arith}

@@ -1,5 +1,4 @@
 -- `records_stores::header_bytes` meets its contract: the bytes of a state packet are the 20 at its place.
--- Assumes nothing.
 use Rattle.records_stores.proofs.PutLaws.{part}
 use Prim.Native.Nat.{_*_}
 use borrow.Author.Needs.{needs}

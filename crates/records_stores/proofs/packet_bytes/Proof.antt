@@ -1,5 +1,4 @@
 -- `records_stores::packet_bytes` meets its contract: the bytes of a stored packet are the first ones of its number's slot.
--- Assumes nothing.
 use Rattle.records_stores.proofs.PutLaws.{part}
 use Prim.Native.Nat.{_*_, _%_}
 use borrow.Author.Needs.{needs}

@@ -1,5 +1,4 @@
 -- `records_stores::put_both` meets its contract: the payload stands behind the header, and the other bytes stay.
--- Assumes nothing.
 use Rattle.records_stores.proofs.PutLaws.{both}
 use borrow.Author.Needs.{needs}
 use Rattle.records_stores.proofs.put_both.Statement.{statement}

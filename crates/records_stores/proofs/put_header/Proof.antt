@@ -1,5 +1,4 @@
 -- `records_stores::put_header` meets its contract: the header stands at its place, and the other bytes stay.
--- Assumes nothing.
 use Prim.Native.Nat.{_*_}
 use mathlib.Core.Path.{ap, _∙_}
 use Rattle.records.specs.Put.{put}

@@ -1,5 +1,4 @@
 -- `records_words::get_held` meets its contract: the word of the number's slot, unpacked.
--- Assumes nothing.
 use borrow.Author.Needs.{needs}
 use Rattle.records_words.proofs.get_held.Statement.{statement}
 use Rattle.records_words.proofs.get_held.Tie as tie

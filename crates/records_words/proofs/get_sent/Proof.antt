@@ -1,5 +1,4 @@
 -- `records_words::get_sent` meets its contract: the two words of the number's slot, unpacked.
--- Assumes nothing.
 use borrow.Author.Needs.{needs}
 use Rattle.records_words.proofs.get_sent.Statement.{statement}
 use Rattle.records_words.proofs.get_sent.Tie as tie

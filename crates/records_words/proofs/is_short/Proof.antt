@@ -1,5 +1,4 @@
 -- `records_words::is_short` meets its contract: how far the word's number and length, as one number, are past those of an empty packet.
--- Assumes nothing.
 use Prim.Native.Nat.{ℕ, _<_, _^_}
 use native.Mathlib.Omega.{arith}
 use mathlib.Core.Path.{ap, _∙_}

@@ -1,5 +1,4 @@
 -- `records_words::put_entry` meets its contract: the entry's word is set at its place.
--- Assumes nothing.
 use borrow.Author.Needs.{needs}
 use Rattle.records_words.proofs.put_entry.Statement.{statement}
 use Rattle.records_words.proofs.put_entry.Tie as tie

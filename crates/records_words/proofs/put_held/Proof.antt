@@ -1,5 +1,4 @@
 -- `records_words::put_held` meets its contract: the packet's word is set in the slot of its number.
--- Assumes nothing.
 use borrow.Author.Needs.{needs}
 use Rattle.records_words.proofs.put_held.Statement.{statement}
 use Rattle.records_words.proofs.put_held.Tie as tie

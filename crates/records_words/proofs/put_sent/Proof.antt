@@ -1,5 +1,4 @@
 -- `records_words::put_sent` meets its contract: the packet's two words are set in the slot of its number.
--- Assumes nothing.
 use borrow.Author.Needs.{needs}
 use Rattle.records_words.proofs.put_sent.Statement.{statement}
 use Rattle.records_words.proofs.put_sent.Tie as tie

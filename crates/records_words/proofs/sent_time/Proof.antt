@@ -1,5 +1,4 @@
 -- `records_words::sent_time` meets its contract: with a time sent it is that time and 1, else 0.
--- Assumes nothing.
 use mathlib.Core.Path.{refl}
 use Rattle.records_words.specs.Words.{sentTime}
 use borrow.Author.Needs.{needs}

@@ -1,5 +1,4 @@
 -- `rules_lent::broken` meets its contract: the lengths, then the rules.
--- Assumes nothing.
 use native.Mathlib.Omega.{arith}
 use borrow.Author.Needs.{needs}
 use Rattle.rules_lent.proofs.BrokenLaws.{differ-broken, rules-kept, rules-broken}

@@ -1,5 +1,4 @@
 -- `rules_lent::stores_differ` meets its contract: one length after the other.
--- Assumes nothing.
 use borrow.Author.Tests.{eq-eqb, ne-eqb}
 use Rattle.rules_lent.proofs.stores_differ.Statement.{statement}
 use Rattle.rules_lent.proofs.stores_differ.Tie as tie

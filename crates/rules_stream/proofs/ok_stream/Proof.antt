@@ -1,5 +1,4 @@
 -- `rules_stream::ok_stream` meets its contract: the rules of each group one after the other; the queue's pass has its 32 numbers from the sender's.
--- Assumes nothing.
 use mathlib.Core.Path.{sym, _∙_}
 use mathlib.Core.Bool.{and-false}
 use Rattle.rules_stream.specs.Ok.{okStream}

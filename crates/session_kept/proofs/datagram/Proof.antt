@@ -1,4 +1,4 @@
--- `session_kept::datagram` meets its contract: the slot's bytes are those of the datagram with this number. Assumes nothing.
+-- `session_kept::datagram` meets its contract: the slot's bytes are those of the datagram with this number.
 use mathlib.Core.Path.{sym, ap, _∙_}
 use borrow.Author.Needs.{needs}
 use Rattle.session_kept.specs.Kept.{slotBytes}

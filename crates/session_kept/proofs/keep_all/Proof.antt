@@ -1,5 +1,5 @@
 -- `session_kept::keep_all` meets its contract: what is kept so far and the datagrams of what is left of the batch have the same last 32 as what
--- was kept before and all of its datagrams. It ends, since a piece has a byte at least. Assumes nothing.
+-- was kept before and all of its datagrams. It ends, since a piece has a byte at least.
 use Prim.Native.Nat.{ℕ, _+_, _-_, _≤_}
 use native.Mathlib.Omega.{arith}
 use mathlib.Core.Path.{_≡_, refl, sym, ap, _∙_}

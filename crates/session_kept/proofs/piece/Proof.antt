@@ -1,4 +1,4 @@
--- `session_kept::piece` meets its contract: all that is left without a segment size or within it, else the segment size. Assumes nothing.
+-- `session_kept::piece` meets its contract: all that is left without a segment size or within it, else the segment size.
 use native.Mathlib.Omega.{arith}
 use Rattle.session_kept.proofs.Pieces.{next-whole, next-cut, next-last}
 use Rattle.session_kept.proofs.piece.Statement.{statement}

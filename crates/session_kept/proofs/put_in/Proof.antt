@@ -1,4 +1,4 @@
--- `session_kept::put_in` meets its contract: what is copied is the datagram as it is kept, and its length is recorded. Assumes nothing.
+-- `session_kept::put_in` meets its contract: what is copied is the datagram as it is kept, and its length is recorded.
 use Prim.Native.Nat.{_+_, _-_, _*_, _≤_}
 use native.Mathlib.Omega.{arith}
 use mathlib.Core.Path.{_≡_, refl}

@@ -1,5 +1,5 @@
 -- `take_batch::batch` meets its contract. The loop's invariant: of the entries of one size in a row, k are counted, and the count of all is
--- k and what is still to count. Assumes nothing.
+-- k and what is still to count.
 use Prim.Native.Nat.{ℕ, _+_, _-_, _≤_}
 use native.Mathlib.Omega.{arith}
 use mathlib.Core.Path.{_≡_, ap, sym, _∙_}

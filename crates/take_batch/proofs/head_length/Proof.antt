@@ -1,4 +1,4 @@
--- `take_batch::head_length` meets its contract: the size of the first entry left to take. Assumes nothing.
+-- `take_batch::head_length` meets its contract: the size of the first entry left to take.
 use native.Mathlib.Omega.{arith}
 use mathlib.Core.Path.{ap, _∙_}
 use borrow.Author.Needs.{needs}

@@ -1,4 +1,4 @@
--- `take_batch::left_entry` meets its contract: the entries left to take are the last words of the queue. Assumes nothing.
+-- `take_batch::left_entry` meets its contract: the entries left to take are the last words of the queue.
 use mathlib.Core.Path.{ap, _∙_}
 use borrow.Author.Needs.{needs}
 use Rattle.records_words.specs.Words.{entryOf}

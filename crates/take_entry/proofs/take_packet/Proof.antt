@@ -1,5 +1,4 @@
 -- `take_entry::take_packet` meets its contract: the part of the outgoing store has at most 1,400 bytes, for which there is room.
--- Assumes nothing.
 use Prim.Native.Nat.{_*_, _%_}
 use native.Mathlib.Omega.{arith}
 use mathlib.Core.Path.{refl, ap, _∙_}

@@ -1,4 +1,4 @@
--- `take_entry::take_state` meets its contract: the part of the header store has at most 20 bytes, for which there is room. Assumes nothing.
+-- `take_entry::take_state` meets its contract: the part of the header store has at most 20 bytes, for which there is room.
 use native.Mathlib.Omega.{arith}
 use Prim.Native.Nat.{_*_}
 use mathlib.Core.Path.{refl, ap, _∙_}

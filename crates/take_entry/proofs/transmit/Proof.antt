@@ -1,4 +1,4 @@
--- `take_entry::transmit` meets its contract: one law of TakeOne for each way out. Assumes nothing.
+-- `take_entry::transmit` meets its contract: one law of TakeOne for each way out.
 use native.Mathlib.Omega.{arith}
 use mathlib.Core.Path.{_≡_, _∙_}
 use mathlib.Core.List.{[]}

@@ -1,5 +1,4 @@
 -- `take_next::segment` meets its contract: a batch of one entry has no segment size.
--- Assumes nothing.
 use mathlib.Core.Path.{refl}
 use borrow.Author.Tests.{eq-eqb, ne-eqb}
 use Rattle.take_next.proofs.segment.Statement.{statement}

@@ -1,5 +1,5 @@
 -- `take_next::to_transmit` meets its contract. The loop's invariant (`Going`): after i entries the buffer has their datagrams, and their
--- packets are marked. Assumes nothing.
+-- packets are marked.
 use Prim.Native.Nat.{_-_}
 use native.Mathlib.Omega.{arith}
 use borrow.Author.Needs.{needs}

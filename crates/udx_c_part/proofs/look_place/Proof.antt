@@ -1,4 +1,4 @@
--- `udx_c_part::look_place` meets its contract: no part in place of refusal 1, else the part that the search finds. Assumes nothing.
+-- `udx_c_part::look_place` meets its contract: no part in place of refusal 1, else the part that the search finds.
 use mathlib.Core.Path.{_≡_, sym, _∙_}
 use borrow.Author.Needs.{needs}
 use Rattle.records.specs.Seen.{Lent}

@@ -1,5 +1,5 @@
 -- `write_piece::fits` meets its contract: where inflight is within the window, the payload fits what is left of it just where the sum is at
--- most the window. Assumes nothing.
+-- most the window.
 use Prim.Native.Nat.{ℕ, _+_, _-_, _<_, _≤_}
 use native.Mathlib.Omega.{arith}
 use mathlib.Core.Path.{_≡_, refl, sym}

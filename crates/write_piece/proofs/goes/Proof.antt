@@ -1,4 +1,4 @@
--- `write_piece::goes` meets its contract: each branch has decided the tests before its own. Assumes nothing.
+-- `write_piece::goes` meets its contract: each branch has decided the tests before its own.
 use native.Mathlib.Omega.{arith}
 use Prim.Native.Nat.{_-_}
 use mathlib.Core.Path.{_∙_, sym}

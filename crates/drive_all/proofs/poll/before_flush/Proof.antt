@@ -1,4 +1,4 @@
--- `drive_all::poll::before_flush` meets its contract: the clock, the largest ack, the timeouts. Assumes nothing.
+-- `drive_all::poll::before_flush` meets its contract: the clock, the largest ack, the timeouts.
 use borrow.Author.Needs.{needs}
 use Rattle.drive_all.proofs.Whole.{driven-acked, settled-checkable, begins}
 use Rattle.drive_all.proofs.poll.before_flush.Statement.{statement}

@@ -1,4 +1,4 @@
--- `drive_all::poll::poll_drive` meets its contract: the parts one after another. Assumes nothing.
+-- `drive_all::poll::poll_drive` meets its contract: the parts one after another.
 use borrow.Author.Needs.{needs}
 use Rattle.drive_all.proofs.Whole.{polls}
 use Rattle.drive_all.proofs.poll.poll_drive.Statement.{statement}

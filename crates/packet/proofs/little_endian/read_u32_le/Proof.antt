@@ -1,5 +1,4 @@
 -- `packet::little_endian::read_u32_le` meets its contract: the four bytes that it joins are the four elements at the place.
--- Assumes nothing.
 use borrow.Author.Needs.{needs}
 use Rattle.packet.proofs.LittleEndian.{four}
 use Rattle.packet.proofs.little_endian.read_u32_le.Statement.{statement}

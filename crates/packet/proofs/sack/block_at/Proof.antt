@@ -1,5 +1,4 @@
 -- `packet::sack::block_at` meets its contract: each branch's test says whether more than 8 bytes are left at the place.
--- Assumes nothing.
 use native.Mathlib.Omega.{arith}
 use borrow.Author.Needs.{needs}
 use Rattle.packet.proofs.Blocks.{next-range, next-end}

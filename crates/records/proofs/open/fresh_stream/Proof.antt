@@ -1,5 +1,4 @@
 -- `records::open::fresh_stream` meets its contract: each group is the fresh one.
--- Assumes nothing.
 use Rattle.records.specs.Open.{freshStream}
 use borrow.Author.Needs.{needs}
 use Rattle.records.proofs.«open».fresh_stream.Statement.{statement}

@@ -1,5 +1,4 @@
 -- `records::open::open` meets its contract: each test that refuses is the one that `openWhy` finds first.
--- Assumes nothing.
 use mathlib.Core.Path.{refl}
 use Rattle.error.specs.declared.Refusal.the-variants.{BrokenRecords, SegmentCeiling, BadClock}
 use Rattle.records.proofs.OpenLaws.{refuses, accepts, why-outgoing, why-incoming, why-headers, why-few, why-many, why-clock, why-none}

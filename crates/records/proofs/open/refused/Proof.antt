@@ -1,5 +1,4 @@
 -- `records::open::refused` meets its contract: the refusal, with a stream that every call refuses.
--- Assumes nothing.
 use borrow.Author.Needs.{needs}
 use Rattle.records.proofs.«open».refused.Statement.{statement}
 use Rattle.records.proofs.«open».refused.Tie as tie

@@ -1,5 +1,4 @@
 -- `rtt::cwnd::halve` meets its contract: each branch has the larger of the two numbers.
--- Assumes nothing.
 use native.Mathlib.Omega.{arith}
 use Rattle.rtt.specs.Window.{halved}
 use Rattle.rtt.proofs.cwnd.halve.Statement.{statement}

@@ -1,5 +1,4 @@
 -- `rules_packets::receiver::all_held` meets its contract: the packets below n keep their rules, so the rest decides.
--- Assumes nothing.
 use Prim.Native.Nat.{_-_, _≤_}
 use native.Mathlib.Omega.{arith}
 use mathlib.Core.Path.{_≡_, refl, sym, _∙_}

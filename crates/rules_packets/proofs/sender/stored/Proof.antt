@@ -1,5 +1,4 @@
 -- `rules_packets::sender::stored` meets its contract: what was found below n, with what the numbers from n on add to it, is what all of them add up to.
--- Assumes nothing.
 use Prim.Native.Nat.{_-_}
 use native.Mathlib.Omega.{arith}
 use mathlib.Core.Path.{sym, _∙_}

@@ -1,5 +1,4 @@
 -- `rules_queue::queue::plain` meets its contract: the tests one after the other.
--- Assumes nothing.
 use borrow.Author.Needs.{needs}
 use Rattle.rules_queue.proofs.queue.plain.Statement.{statement}
 use Rattle.rules_queue.proofs.queue.plain.Tie as tie

@@ -1,4 +1,4 @@
--- `session_ends::calls::read` meets its contract. Assumes nothing.
+-- `session_ends::calls::read` meets its contract.
 use borrow.Author.Needs.{needs}
 use Rattle.session_ends.proofs.Stepped.{stepped-reads}
 use Rattle.session_ends.proofs.calls.read.Statement.{statement}

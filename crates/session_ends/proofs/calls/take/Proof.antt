@@ -1,4 +1,4 @@
--- `session_ends::calls::take` meets its contract. Assumes nothing.
+-- `session_ends::calls::take` meets its contract.
 use borrow.Author.Needs.{needs}
 use Rattle.session_ends.proofs.Stepped.{stepped-takes}
 use Rattle.session_ends.proofs.calls.take.Statement.{statement}

@@ -1,5 +1,4 @@
 -- `session_turn::opening::open_ends` meets its contract: both ends are fresh, and the arrays have the lengths that their types say.
--- Assumes nothing.
 use Prim.Native.Nat.{ℕ}
 use native.Mathlib.Omega.{arith}
 use mathlib.Core.Path.{_≡_, refl}

@@ -1,5 +1,4 @@
 -- `udx::close::close` meets its contract: the verdict is the model's, and what follows it is its answer.
--- Assumes nothing.
 use mathlib.Core.Path.{sym, _∙_}
 use borrow.Author.Needs.{needs}
 use Rattle.records.specs.Seen.{Lent}

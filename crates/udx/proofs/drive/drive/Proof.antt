@@ -1,4 +1,4 @@
--- `udx::drive::drive` meets its contract: the refusals are the model's list, and what follows them is its answer. Assumes nothing.
+-- `udx::drive::drive` meets its contract: the refusals are the model's list, and what follows them is its answer.
 use borrow.Author.Needs.{needs}
 use Rattle.records.specs.Seen.{Lent}
 use Rattle.rules_lent.specs.Broken.{lent}

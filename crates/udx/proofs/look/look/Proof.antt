@@ -1,5 +1,4 @@
 -- `udx::look::look` meets its contract: an empty part in place of refusal 1, else the part that `look_next` finds.
--- Assumes nothing.
 use mathlib.Core.Path.{sym, _∙_}
 use borrow.Author.Needs.{needs}
 use Rattle.records.specs.Seen.{Lent}

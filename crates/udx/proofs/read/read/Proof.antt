@@ -1,5 +1,4 @@
 -- `udx::read::read` meets its contract: refusal 1, else what is held in order.
--- Assumes nothing.
 use mathlib.Core.Path.{sym, _∙_}
 use borrow.Author.Needs.{needs}
 use Rattle.records.specs.Seen.{Lent}

@@ -1,4 +1,4 @@
--- `udx_c::drive::udx_drive` meets its contract. Assumes nothing.
+-- `udx_c::drive::udx_drive` meets its contract.
 use mathlib.Core.Path.{sym, _∙_}
 use Rattle.udx_c.proofs.CrossLaws.{refused-crosses, called-crosses}
 use borrow.Author.Needs.{needs}

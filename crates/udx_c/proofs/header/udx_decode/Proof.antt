@@ -1,4 +1,4 @@
--- `udx_c::header::udx_decode` meets its contract. Assumes nothing.
+-- `udx_c::header::udx_decode` meets its contract.
 use borrow.Author.Needs.{needs}
 use Rattle.udx_c.proofs.header.udx_decode.Statement.{statement}
 use Rattle.udx_c.proofs.header.udx_decode.Tie as tie

@@ -1,4 +1,4 @@
--- `udx_c::layout::udx_layout_step` meets its contract: the stream's fields are counted first, the rest after them. Assumes nothing.
+-- `udx_c::layout::udx_layout_step` meets its contract: the stream's fields are counted first, the rest after them.
 use Prim.Native.Nat.{ℕ}
 use mathlib.Core.Path.{ap}
 use mathlib.Core.List.{List, _++_}

@@ -1,4 +1,4 @@
--- `udx_c::look::flat_part` meets its contract. Assumes nothing.
+-- `udx_c::look::flat_part` meets its contract.
 use borrow.Author.Needs.{needs}
 use Rattle.udx_c.proofs.look.flat_part.Statement.{statement}
 use Rattle.udx_c.proofs.look.flat_part.Tie as tie

@@ -1,4 +1,4 @@
--- `udx_c::look::udx_look` meets its contract. Assumes nothing.
+-- `udx_c::look::udx_look` meets its contract.
 use mathlib.Core.Path.{sym, _∙_}
 use Rattle.udx_c.proofs.CrossLaws.{refused-looks, placed-looks}
 use borrow.Author.Needs.{needs}

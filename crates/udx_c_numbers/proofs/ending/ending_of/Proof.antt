@@ -1,4 +1,4 @@
--- `udx_c_numbers::ending::ending_of` meets its contract. Assumes nothing.
+-- `udx_c_numbers::ending::ending_of` meets its contract.
 use borrow.Author.Needs.{needs}
 use Rattle.udx_c_numbers.proofs.ending.ending_of.Statement.{statement}
 use Rattle.udx_c_numbers.proofs.ending.ending_of.Tie as tie

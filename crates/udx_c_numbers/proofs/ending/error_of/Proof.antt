@@ -1,4 +1,4 @@
--- `udx_c_numbers::ending::error_of` meets its contract. Assumes nothing.
+-- `udx_c_numbers::ending::error_of` meets its contract.
 use mathlib.Core.Path.{refl}
 use borrow.Author.Tests.{eq-eqb, ne-eqb}
 use Rattle.udx_c_numbers.proofs.ending.error_of.Statement.{statement}

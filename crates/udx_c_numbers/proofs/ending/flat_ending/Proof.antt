@@ -1,4 +1,4 @@
--- `udx_c_numbers::ending::flat_ending` meets its contract. Assumes nothing.
+-- `udx_c_numbers::ending::flat_ending` meets its contract.
 use borrow.Author.Needs.{needs}
 use Rattle.udx_c_numbers.proofs.ending.flat_ending.Statement.{statement}
 use Rattle.udx_c_numbers.proofs.ending.flat_ending.Tie as tie

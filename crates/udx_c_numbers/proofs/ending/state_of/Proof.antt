@@ -1,4 +1,4 @@
--- `udx_c_numbers::ending::state_of` meets its contract. Assumes nothing.
+-- `udx_c_numbers::ending::state_of` meets its contract.
 use mathlib.Core.Path.{refl}
 use borrow.Author.Tests.{eq-eqb, ne-eqb}
 use Rattle.udx_c_numbers.proofs.ending.state_of.Statement.{statement}

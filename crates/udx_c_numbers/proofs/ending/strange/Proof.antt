@@ -1,4 +1,4 @@
--- `udx_c_numbers::ending::strange` meets its contract. Assumes nothing.
+-- `udx_c_numbers::ending::strange` meets its contract.
 use mathlib.Core.Path.{refl}
 use borrow.Author.Tests.{lt-ltb, le-ltb}
 use Rattle.udx_c_numbers.proofs.ending.strange.Statement.{statement}

@@ -1,4 +1,4 @@
--- `udx_c_numbers::flatten::broken_step` meets its contract. Assumes nothing.
+-- `udx_c_numbers::flatten::broken_step` meets its contract.
 use mathlib.Core.Path.{refl}
 use Rattle.udx_c_numbers.specs.Flat.{brokenStep}
 use Rattle.udx_c_numbers.proofs.flatten.broken_step.Statement.{statement}

@@ -1,4 +1,4 @@
--- `udx_c_numbers::flatten::flat_opened` meets its contract. Assumes nothing.
+-- `udx_c_numbers::flatten::flat_opened` meets its contract.
 use Rattle.udx_c_numbers.specs.Flat.{flatOpened}
 use borrow.Author.Needs.{needs}
 use Rattle.udx_c_numbers.proofs.flatten.flat_opened.Statement.{statement}

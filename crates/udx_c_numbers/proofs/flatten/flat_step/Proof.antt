@@ -1,4 +1,4 @@
--- `udx_c_numbers::flatten::flat_step` meets its contract. Assumes nothing.
+-- `udx_c_numbers::flatten::flat_step` meets its contract.
 use Rattle.udx_c_numbers.specs.Flat.{flatStep}
 use borrow.Author.Needs.{needs}
 use Rattle.udx_c_numbers.proofs.flatten.flat_step.Statement.{statement}

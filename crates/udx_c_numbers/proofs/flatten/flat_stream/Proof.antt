@@ -1,4 +1,4 @@
--- `udx_c_numbers::flatten::flat_stream` meets its contract. Assumes nothing.
+-- `udx_c_numbers::flatten::flat_stream` meets its contract.
 use Rattle.udx_c_numbers.specs.Flat.{flatStream}
 use borrow.Author.Needs.{needs}
 use Rattle.udx_c_numbers.proofs.flatten.flat_stream.Statement.{statement}

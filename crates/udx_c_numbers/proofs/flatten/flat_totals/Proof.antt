@@ -1,4 +1,4 @@
--- `udx_c_numbers::flatten::flat_totals` meets its contract. Assumes nothing.
+-- `udx_c_numbers::flatten::flat_totals` meets its contract.
 use mathlib.Core.Path.{refl}
 use Rattle.udx_c_numbers.specs.Flat.{flatTotals}
 use Rattle.udx_c_numbers.proofs.flatten.flat_totals.Statement.{statement}

@@ -1,4 +1,4 @@
--- `udx_c_numbers::streams::stream_of` meets its contract. Assumes nothing.
+-- `udx_c_numbers::streams::stream_of` meets its contract.
 use Rattle.udx_c_numbers.specs.Flat.{streamOf}
 use borrow.Author.Needs.{needs}
 use Rattle.udx_c_numbers.proofs.streams.stream_of.Statement.{statement}

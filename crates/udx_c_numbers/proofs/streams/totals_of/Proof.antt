@@ -1,4 +1,4 @@
--- `udx_c_numbers::streams::totals_of` meets its contract. Assumes nothing.
+-- `udx_c_numbers::streams::totals_of` meets its contract.
 use mathlib.Core.Path.{refl}
 use Rattle.udx_c_numbers.specs.Flat.{totalsOf}
 use Rattle.udx_c_numbers.proofs.streams.totals_of.Statement.{statement}

@@ -1,4 +1,4 @@
--- `udx_refusals::deliver::last_number` meets its contract. Assumes nothing.
+-- `udx_refusals::deliver::last_number` meets its contract.
 use mathlib.Core.Path.{sym, _∙_}
 use borrow.Author.Needs.{needs}
 use Rattle.udx_refusals.proofs.deliver.last_number.Statement.{statement}

@@ -1,4 +1,4 @@
--- `udx_refusals::deliver::past_incoming` meets its contract. Assumes nothing.
+-- `udx_refusals::deliver::past_incoming` meets its contract.
 use mathlib.Core.Path.{sym, _∙_}
 use borrow.Author.Needs.{needs}
 use Rattle.udx_refusals.proofs.deliver.past_incoming.Statement.{statement}

@@ -1,4 +1,4 @@
--- `udx_refusals::early::bad_clock` meets its contract. Assumes nothing.
+-- `udx_refusals::early::bad_clock` meets its contract.
 use borrow.Author.Needs.{needs}
 use borrow.Author.Tests.{le-leb, lt-leb}
 use Rattle.udx_refusals.proofs.early.bad_clock.Statement.{statement}

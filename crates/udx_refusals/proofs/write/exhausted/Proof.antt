@@ -1,5 +1,4 @@
 -- `udx_refusals::write::exhausted` meets its contract: an empty write needs no number.
--- Assumes nothing.
 use mathlib.Core.Path.{refl}
 use borrow.Author.Needs.{needs}
 use Rattle.udx_refusals.proofs.write.exhausted.Statement.{statement}

@@ -1,4 +1,4 @@
--- `udx_steps::drive::done_step` meets its contract: the clocks move and the stream has ended. Assumes nothing.
+-- `udx_steps::drive::done_step` meets its contract: the clocks move and the stream has ended.
 use mathlib.Core.Path.{refl}
 use borrow.Author.Needs.{needs}
 use Rattle.udx_steps.proofs.drive.done_step.Statement.{statement}

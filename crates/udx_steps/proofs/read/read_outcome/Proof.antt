@@ -1,5 +1,4 @@
 -- `udx_steps::read::read_outcome` meets its contract: ready, else the error, else waiting.
--- Assumes nothing.
 use borrow.Author.Needs.{needs}
 use Rattle.udx_steps.proofs.read.read_outcome.Statement.{statement}
 use Rattle.udx_steps.proofs.read.read_outcome.Tie as tie

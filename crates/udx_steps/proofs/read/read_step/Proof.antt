@@ -1,5 +1,4 @@
 -- `udx_steps::read::read_step` meets its contract: the outcome is that of `read_outcome`.
--- Assumes nothing.
 use mathlib.Core.Path.{refl}
 use borrow.Author.Needs.{needs}
 use Rattle.udx_steps.proofs.read.read_step.Statement.{statement}

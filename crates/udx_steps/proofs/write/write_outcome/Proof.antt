@@ -1,5 +1,4 @@
 -- `udx_steps::write::write_outcome` meets its contract: ready for an empty write or an accepted byte, else waiting.
--- Assumes nothing.
 use borrow.Author.Needs.{needs}
 use borrow.Author.Tests.{lt-ltb, le-ltb}
 use Rattle.udx_steps.proofs.write.write_outcome.Statement.{statement}

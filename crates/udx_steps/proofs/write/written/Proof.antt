@@ -1,5 +1,4 @@
 -- `udx_steps::write::written` meets its contract: stream and outcome are those of `with_outbox` and `write_outcome`.
--- Assumes nothing.
 use mathlib.Core.Path.{refl}
 use borrow.Author.Needs.{needs}
 use Rattle.udx_steps.proofs.write.written.Statement.{statement}

@@ -1,6 +1,5 @@
 -- `packet::header::Header::from_bytes` meets its contract: the tests on the way are those of `hasHeader`, in its order, and the
 -- fields are read at their places.
--- Assumes nothing.
 use native.Mathlib.Omega.{arith}
 use borrow.Author.Needs.{needs}
 use Rattle.packet.proofs.HeaderLaws.{decoded-short, decoded-magic, decoded-version, decoded-packet}

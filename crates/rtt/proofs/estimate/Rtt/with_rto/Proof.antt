@@ -1,5 +1,4 @@
 -- `rtt::estimate::Rtt::with_rto` meets its contract: the two maxima that it calls for are those of `rtoOf`.
--- Assumes nothing.
 use Prim.Native.Nat.{ℕ}
 use mathlib.Core.Path.{ap}
 use native.Mathlib.Omega.{arith}
