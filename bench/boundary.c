@@ -1,6 +1,6 @@
 /*
  * Times the calls through the boundary, as C and Rust make them: stream and totals by value in and out. The cases are those of calls.c,
- * incoming.c and drives.c, which time the same calls from inside. Build: target/staticlib/libudx_c.a, -Iinclude.
+ * incoming.c and drives.c, which time the same calls from inside. Build with -Iinclude and target/staticlib/libudx_c.a.
  */
 #include "timing.h"
 #include "udx.h"
@@ -11,7 +11,7 @@ static udx_totals totals;
 static uint64_t fresh[UDX_SENT_WORDS];
 static uint8_t buf[UDX_TAKE_ROOM], bytes[UDX_MAX_PAYLOAD], datagram[UDX_MAX_DATAGRAM];
 
-/* A stream with so many packets of this payload stored (waiting or not, sent so often), and of them left to take. */
+/* A stream with `stored` packets of this payload, all waiting or none, sent `transmits` times, and `left` of them left to take. */
 static void fill(unsigned stored, unsigned payload, unsigned left, unsigned waiting, unsigned transmits) {
     uint64_t length = payload + 20;
     memset(&e, 0, sizeof e);

@@ -9,7 +9,7 @@ extern uint64_t udx_bench_take(const uint64_t *numbers, uint64_t *sent, const ui
 static uint64_t numbers[24], sent[64], held[32], queue[128], fresh[64];
 static uint8_t outgoing[44800], incoming[44160], headers[1280], bytes[1380], buf[14000];
 
-/* A stream with ten packets of this payload stored and left to take, or none. */
+/* A stream with `stored` packets of this payload, all left to take. */
 static void fill(unsigned stored, unsigned payload) {
     uint64_t length = payload + 20;
     memset(fresh, 0, sizeof fresh);
@@ -26,7 +26,7 @@ static uint64_t one_write(unsigned payload) {
     return udx_bench_write(numbers, sent, held, queue, outgoing, sizeof outgoing, incoming, sizeof incoming, headers, sizeof headers, bytes, payload);
 }
 
-/* The marks are set back first, since a packet may be taken only so often. */
+/* Resets the marks first: transmits are at most 7, so a packet cannot be taken forever. */
 static uint64_t one_take(unsigned unused) {
     (void)unused;
     memcpy(sent, fresh, sizeof fresh);

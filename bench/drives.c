@@ -7,7 +7,7 @@ extern uint64_t udx_bench_drive(const uint64_t *numbers, uint64_t *sent, const u
 static uint64_t numbers[24], sent[64], held[32], queue[128], fresh[64];
 static uint8_t outgoing[44800], incoming[44160], headers[1280];
 
-/* A stream with so many packets stored, all waiting or all sent once, and this largest ack. */
+/* A stream with `stored` packets, all waiting or all sent once, and this largest ack. */
 static void fill(unsigned stored, unsigned waiting, unsigned largest) {
     memset(fresh, 0, sizeof fresh);
     for (unsigned n = 0; n < stored; n++) {
@@ -19,7 +19,7 @@ static void fill(unsigned stored, unsigned waiting, unsigned largest) {
     memcpy(numbers, values, sizeof values);
 }
 
-/* The words of the stored packets are set back first. */
+/* Resets the words of the stored packets first. */
 static uint64_t one_drive(unsigned unused) {
     (void)unused;
     memcpy(sent, fresh, sizeof fresh);

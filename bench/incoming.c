@@ -9,7 +9,7 @@ extern uint64_t udx_bench_read(const uint64_t *numbers, const uint64_t *sent, ui
 static uint64_t numbers[24], sent[64], held[32], queue[128];
 static uint8_t outgoing[44800], incoming[44160], headers[1280], datagram[1400], buf[1380];
 
-/* A stream with so many packets stored, and one of this payload held or none. */
+/* A stream with `stored` packets, and one of this payload held or none. */
 static void fill(unsigned stored, unsigned holding, unsigned payload) {
     for (unsigned n = 0; n < stored; n++) {
         sent[n] = (uint64_t)n << 32 | 1400ull << 6 | 1 << 1;

@@ -5,7 +5,7 @@ extern uint32_t udx_bench_rules(const uint64_t *numbers, const uint64_t *sent, c
 
 static uint64_t numbers[24], sent[64], held[32], queue[128];
 
-/* Records with so many packets stored, held and queued, and so many state packets queued. */
+/* Records with this many packets stored, held and queued, and this many state packets queued. */
 static void fill(unsigned stored, unsigned holding, unsigned states) {
     uint64_t inflight = 0;
     for (unsigned i = 0; i < stored; i++) {

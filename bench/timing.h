@@ -10,7 +10,7 @@ static double now(void) {
     return t.tv_sec * 1e9 + t.tv_nsec;
 }
 
-/* Nanoseconds of a call with this argument, the best of five passes. Every answer must be the one that is due. */
+/* Nanoseconds of a call with this argument, the best of five passes. Every result must be the expected one. */
 static inline void report(const char *name, uint64_t (*call)(unsigned), unsigned argument, uint64_t answer) {
     const int rounds = 1000000;
     uint64_t sum = 0;

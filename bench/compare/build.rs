@@ -1,4 +1,4 @@
-//! Links the archive of crate bench_path, the engine's calls made from Rattle. `udx` links the engine's own archive: both can stand in one
+//! Links the archive of crate bench_path, the engine's calls made from Rattle. `udx` links the engine's own archive: both fit into one
 //! program, since each hides all but its C functions.
 use std::path::Path;
 use std::process::exit;

@@ -1,6 +1,6 @@
 /*
  * bad_line: a hub and a gateway in one process, over a simulated line that loses, repeats and reorders datagrams. The hub sends samples or
- * a file, the gateway reads and checks every byte; with --both also the other way round.
+ * a file, the gateway reads and checks every byte; with --both also in the other direction.
  *
  * The loop to copy is carry_all with the functions it calls: the round of a caller in udx.h, for two ends at once. In a program with a
  * socket line_send becomes a send, wait_for_event a poll with a timeout, and the simulated clock a monotonic one. --help lists the options.
@@ -12,25 +12,25 @@
 #include <signal.h>
 
 enum {
-    SEGMENTS = 10,             /* most datagrams of a batch */
+    SEGMENTS = 10,             /* most datagrams in a batch */
     CLOSING_ROUNDS = 8,        /* two are enough: one sends the END, the next finds nothing left */
-    IDLE_STREAMS = 1000,       /* streams one after another without a byte read: the line carries too little */
+    IDLE_STREAMS = 1000,       /* consecutive streams without a byte read: the line carries too little */
     WATCH_EVERY = 256,         /* rounds between two looks at the wall clock */
     GATEWAY_SAMPLE = 500000000 /* the two sides send different samples, so that no mix-up goes unseen */
 };
 
 static struct transfer run;
 
-/* Where the engine refuses what it never should, this program is wrong. */
+/* If the engine refuses what it never should, this program has a bug. */
 static udx_answer must(const char *call, udx_answer a) {
     if (a.outcome == UDX_REFUSED)
         die(FAILED, "%s was refused with %d", call, a.refusal);
     return a;
 }
 
-/* 1. What came in is delivered and read. */
+/* 1. Deliver and read what came in. */
 
-/* Compares with the source, made again at this offset: what is wrong is found at its first byte. */
+/* Compares with the source, generated again at this offset, and finds the first wrong byte. */
 static void check_bytes(struct transfer *t, struct side *s, const struct source *from, size_t count) {
     if (count > from->length - s->read)
         die(FAILED, "more bytes were read than were sent");
@@ -44,7 +44,7 @@ static void check_bytes(struct transfer *t, struct side *s, const struct source 
     s->wrong_at = s->read + at;
 }
 
-/* Reads until a read puts nothing. A read puts bytes whatever it answers, so the count is looked at in each case, and the error last. */
+/* Reads until a read puts nothing. A read can put bytes whatever it returns, so the count is checked in each case, and the error last. */
 static void read_all(struct transfer *t, int i) {
     struct side *s = &t->side[i];
     udx_answer a;
@@ -57,7 +57,7 @@ static void read_all(struct transfer *t, int i) {
     must("read", a);
 }
 
-/* A refused datagram is dropped: it is of an earlier stream, or it comes again. Any other refusal would be a mistake of this program. */
+/* A refused datagram is dropped: it belongs to an earlier stream, or will be resent. Any other refusal would be a bug in this program. */
 static void deliver(struct transfer *t, const struct arrival *a) {
     struct side *s = &t->side[a->to];
     udx_answer answer = udx_end_deliver(&s->end, a->bytes, a->length, t->clock);
@@ -73,7 +73,7 @@ static void deliver(struct transfer *t, const struct arrival *a) {
         must("deliver", answer);
 }
 
-/* Everything that has come by now, then one read: bytes are read before the stream can fail. */
+/* Delivers everything that has arrived by now, then reads: bytes are read before the stream can fail. */
 static void deliver_arrived(struct transfer *t) {
     const struct arrival *next;
     while ((next = line_next(&t->line)) && next->time <= t->clock) {
@@ -86,14 +86,14 @@ static void deliver_arrived(struct transfer *t) {
             read_all(t, i);
 }
 
-/* 2. and 3. A drive decides what goes out, and all of it is taken and sent. */
+/* 2. and 3. Drive, which decides what goes out; take and send all of it. */
 
-/* Whether the timer runs and its deadline has come. */
+/* Whether the timer is running and due. */
 static int is_due(const udx_stream *s, uint64_t clock) {
     return s->sender.remote_acked != s->sender.seq && s->timing.deadline <= clock;
 }
 
-/* A drive settles first, and what it settles starts the timer again: the timer was due only if nothing left the store. */
+/* A drive settles first, and settling restarts the timer: the timer was due only if nothing left the store. */
 static void drive(struct transfer *t, int i) {
     struct side *s = &t->side[i];
     int due = is_due(&s->end.stream, t->clock);
@@ -106,7 +106,7 @@ static void drive(struct transfer *t, int i) {
     log_numbers(&t->log, t->clock, i, &s->end.stream);
 }
 
-/* Counts a packet by its header; new ones come in the order of their numbers. Answers whether it has data. */
+/* Counts a packet by its header; new ones come in the order of their numbers. Returns whether it has data. */
 static int count_packet(struct side *s, const udx_header *h) {
     int is_data = h->typ & 1;
     if (!is_data) {
@@ -120,7 +120,7 @@ static int count_packet(struct side *s, const udx_header *h) {
     return is_data;
 }
 
-/* Here a program with a socket sends. */
+/* A program with a socket sends here. */
 static void send_datagram(struct transfer *t, int from, const uint8_t *bytes, size_t length) {
     struct side *s = &t->side[from];
     udx_header h = udx_decode(bytes, length).header;
@@ -135,7 +135,7 @@ static void send_datagram(struct transfer *t, int from, const uint8_t *bytes, si
         log_datagram(&t->log, t->clock, "lost", from, id);
 }
 
-/* Until a take answers UDX_NONE, write, deliver, drive and close are refused. */
+/* Until a take returns UDX_NONE, write, deliver, drive and close are refused. */
 static void send_all(struct transfer *t, int from) {
     for (;;) {
         udx_answer a = must("take", udx_end_take(&t->side[from].end, t->batch, sizeof t->batch));
@@ -147,7 +147,7 @@ static void send_all(struct transfer *t, int from) {
     }
 }
 
-/* Enough for a whole window is kept ready, so that no packet is cut short by the end of the buffer. */
+/* Keeps enough ready for a whole window, so that no packet is cut short by the end of the buffer. */
 static void fill_outbox(struct outbox *o, const struct source *source) {
     size_t waiting = o->end - o->start;
     if (waiting >= FULL_STREAM || o->next == source->length)
@@ -162,7 +162,7 @@ static void fill_outbox(struct outbox *o, const struct source *source) {
     o->next += more;
 }
 
-/* The checksum takes each byte once, also where a fresh stream sends it again. */
+/* The checksum counts each byte once, even if a fresh stream sends it again. */
 static void note_written(struct side *s, const uint8_t *bytes, size_t count) {
     uint64_t offset = s->outbox.next - (s->outbox.end - s->outbox.start);
     uint64_t known = s->sent - offset < count ? s->sent - offset : count;
@@ -171,7 +171,7 @@ static void note_written(struct side *s, const uint8_t *bytes, size_t count) {
     s->counts.bytes_again += known;
 }
 
-/* Answers whether anything was accepted: then there is something new to drive. */
+/* Returns whether anything was accepted: then there is something new to drive. */
 static int write_more(struct side *s) {
     struct outbox *o = &s->outbox;
     fill_outbox(o, &s->source);
@@ -185,7 +185,7 @@ static int write_more(struct side *s) {
     return 1;
 }
 
-/* A drive that settles makes room in the window. So what waits is written after it, and what was written needs a drive again. */
+/* A drive that settles makes room in the window. So what is pending is written after it, and then needs another drive. */
 static void drive_and_send(struct transfer *t, int i) {
     t->side[i].woken = 0;
     do {
@@ -206,7 +206,7 @@ static uint64_t earlier(uint64_t a, uint64_t b) {
     return a < b ? a : b;
 }
 
-/* The next arrival or the next deadline. A deadline counts only while something is not acknowledged. */
+/* The next arrival or the next deadline. A deadline counts only while something is unacknowledged. */
 static void wait_for_event(struct transfer *t) {
     const struct arrival *arrival = line_next(&t->line);
     uint64_t next = arrival ? arrival->time : UINT64_MAX;
@@ -220,9 +220,9 @@ static void wait_for_event(struct transfer *t) {
     t->clock = next > t->clock ? next : t->clock;
 }
 
-/* What a stream needs around its rounds: opening, failing, the end. */
+/* What a stream needs besides its rounds: opening, failing, ending. */
 
-/* A line that lets nothing through would go on for ever. */
+/* On a line that lets nothing through the run would never end. */
 static void stop_if_idle(struct transfer *t) {
     t->idle_streams = t->streams > 0 && bytes_read(t) == t->read_at_open ? t->idle_streams + 1 : 0;
     t->read_at_open = bytes_read(t);
@@ -231,8 +231,8 @@ static void stop_if_idle(struct transfer *t) {
 }
 
 /*
- * Both ends, with ids that no earlier stream had: what of those is still under way is refused. Each direction goes on at the first byte
- * that its receiver has not read; over a real line the receiver tells the sender that offset.
+ * Opens both ends, with ids that no earlier stream had, so that datagrams still on the line are refused. Each direction continues at the
+ * first byte that its receiver has not read; on a real line the receiver tells the sender that offset.
  */
 static void open_streams(struct transfer *t) {
     uint32_t first = (uint32_t)(2 * t->streams + 1);
@@ -256,7 +256,7 @@ static int timed_out(const struct transfer *t) {
     return -1;
 }
 
-/* Only then may a side close: its close would be the end of what is not acknowledged. */
+/* Only then may a side close: what is not acknowledged could be lost. */
 static int all_acknowledged(const struct transfer *t) {
     for (int i = 0; i < 2; i++) {
         const struct side *s = &t->side[i];
@@ -266,7 +266,7 @@ static int all_acknowledged(const struct transfer *t) {
     return 1;
 }
 
-/* The whole transfer. A stream that fails on a bad line is normal: what was read is right, and a fresh one carries the rest. */
+/* The whole transfer. On a bad line it is normal for a stream to fail: what was read is right, and a fresh one carries the rest. */
 static void carry_all(struct transfer *t, struct watch *w) {
     open_streams(t);
     for (unsigned round = 1;; round++) {
@@ -286,7 +286,7 @@ static void carry_all(struct transfer *t, struct watch *w) {
     }
 }
 
-/* A drive answers UDX_DONE once the END has been taken and nothing is left to send again. */
+/* A drive returns UDX_DONE once the END has been taken and nothing is left to resend. */
 static int drive_until_done(struct transfer *t, int i) {
     for (int round = 0; round < CLOSING_ROUNDS; round++) {
         if (must("drive", udx_end_drive(&t->side[i].end, t->clock)).outcome == UDX_DONE)
@@ -296,7 +296,7 @@ static int drive_until_done(struct transfer *t, int i) {
     return 0;
 }
 
-/* Both sides close: an END that the line loses is not sent again, so neither waits for the other's. */
+/* Both sides close: an END that the line loses is not resent, so neither waits for the other's. */
 static void close_both(struct transfer *t) {
     for (int i = 0; i < 2; i++)
         must("close", udx_end_close(&t->side[i].end));
@@ -332,7 +332,7 @@ static void set_up(struct transfer *t, const struct options *o) {
 
 int main(int count, char **words) {
     check_standard_files();
-    signal(SIGPIPE, SIG_IGN); /* a reader that has gone is an error of the output, not a silent end */
+    signal(SIGPIPE, SIG_IGN); /* a reader that has gone away is an output error, not a silent end */
     struct options o = parse_options(count, words);
     struct watch w = watch_start(o.limit);
     set_up(&run, &o);

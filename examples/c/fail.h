@@ -10,10 +10,10 @@
 
 enum { FAILED = 1, BAD_USE = 2 };
 
-/* 1 while a progress line stands on the terminal without its end. */
+/* 1 while an unfinished progress line is on the terminal. */
 static int progress_line_open;
 
-/* The line that says why starts on a line of its own. */
+/* The message starts on a line of its own. */
 __attribute__((format(printf, 2, 3))) static _Noreturn void die(int status, const char *format, ...) {
     va_list values;
     fprintf(stderr, "%sbad_line: ", progress_line_open ? "\n" : "");

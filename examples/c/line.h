@@ -1,6 +1,5 @@
 /*
- * A simulated line: it loses datagrams, repeats them and holds them back, by a chance that a seed decides. It stands where a program has
- * its socket.
+ * A simulated line: by seeded chance it loses datagrams, repeats them and holds them back. It takes the place of a socket.
  */
 #ifndef LINE_H
 #define LINE_H
@@ -11,14 +10,14 @@
 
 enum {
     LINE_ALWAYS = 100000000,   /* a chance of 100 percent: chances are in millionths of a percent */
-    LINE_MOST_HELD = 100000000 /* a datagram is held back by up to so many nanoseconds */
+    LINE_MOST_HELD = 100000000 /* nanoseconds that a datagram is held back at most */
 };
 
-/* A copy of a datagram under way. */
+/* A copy of a datagram in transit. */
 struct arrival {
-    uint64_t time, order; /* it comes at time; of two at one time the one that was sent first */
+    uint64_t time, order; /* it arrives at time; of two at the same time, the one sent first */
     uint64_t id;          /* the datagram's number over the whole run */
-    int to;               /* the end that it comes to */
+    int to;               /* the end that it goes to */
     size_t length;
     uint8_t bytes[UDX_MAX_DATAGRAM];
     struct arrival *next_spare;
@@ -31,7 +30,7 @@ struct line {
     uint64_t sent;                  /* copies put on the line so far */
     struct arrival **heap;          /* the earliest arrival first, each before its two children */
     size_t count, room;
-    struct arrival *spare; /* used again, so that memory is asked for only while the line fills up */
+    struct arrival *spare; /* reused, so that memory is allocated only while the line fills up */
 };
 
 /* What the line did with a datagram. */
@@ -56,7 +55,7 @@ static inline int line_chance(struct line *l, uint64_t chance) {
     return line_below(l, LINE_ALWAYS) < chance;
 }
 
-/* How much longer than the line's delay a copy takes that others are to overtake. */
+/* The extra delay of a copy that others are to overtake. */
 static inline uint64_t line_hold(struct line *l) {
     return 1 + line_below(l, LINE_MOST_HELD);
 }
@@ -110,7 +109,7 @@ static inline struct arrival *line_spare(struct line *l) {
     return a;
 }
 
-/* The bytes are copied: the sender's buffer is used again before they come. */
+/* The bytes are copied: the sender's buffer is reused before they arrive. */
 static inline void line_put(struct line *l, uint64_t time, int to, uint64_t id, const uint8_t *bytes, size_t length) {
     struct arrival *a = line_spare(l);
     a->time = time;
@@ -124,7 +123,7 @@ static inline void line_put(struct line *l, uint64_t time, int to, uint64_t id, 
     line_rise(l);
 }
 
-/* A datagram of at most UDX_MAX_DATAGRAM bytes on its way to an end. */
+/* Sends a datagram of at most UDX_MAX_DATAGRAM bytes to an end. */
 static inline struct fate line_send(struct line *l, uint64_t now, int to, uint64_t id, const uint8_t *bytes, size_t length) {
     struct fate fate = {0, 0, 0};
     fate.lost = line_chance(l, l->loss);
@@ -138,12 +137,12 @@ static inline struct fate line_send(struct line *l, uint64_t now, int to, uint64
     return fate;
 }
 
-/* The next arrival, which stays under way; NULL where nothing is. */
+/* The next arrival, which stays on the line; NULL if there is none. */
 static inline const struct arrival *line_next(const struct line *l) {
     return l->count ? l->heap[0] : NULL;
 }
 
-/* Takes the next arrival from the line; it goes back by line_release. */
+/* Takes the next arrival from the line; line_release gives it back. */
 static inline struct arrival *line_take(struct line *l) {
     struct arrival *a = l->heap[0];
     l->heap[0] = l->heap[--l->count];
@@ -156,7 +155,7 @@ static inline void line_release(struct line *l, struct arrival *a) {
     l->spare = a;
 }
 
-/* Gives all memory back. */
+/* Frees all memory. */
 static inline void line_close(struct line *l) {
     while (l->count)
         line_release(l, line_take(l));

@@ -1,10 +1,10 @@
 /*
- * The log of a run: one event a line, times in nanoseconds on the simulated clock.
+ * The log of a run: one event per line, times in nanoseconds on the simulated clock.
  *
- *     TIME sent END ID KIND NUMBER BYTES     datagram ID was taken of END; KIND data with its seq, or state with its ack
+ *     TIME sent END ID KIND NUMBER BYTES     datagram ID was taken from END; KIND data with its seq, or state with its ack
  *     TIME lost END ID                       the line lost it
- *     TIME came END ID                       it is delivered at END
- *     TIME refused END ID REFUSAL            it came and was refused with this number
+ *     TIME came END ID                       it is delivered to END
+ *     TIME refused END ID REFUSAL            it arrived and was refused with this number
  *     TIME numbers END WINDOW INFLIGHT RTO   after a drive that changed one of them
  *     TIME timeout END                       a drive found the timer due
  *     TIME failed END                        the stream ended with TimedOut; the next one starts fresh at both ends
@@ -25,22 +25,22 @@ struct numbers {
 struct event_log {
     FILE *file; /* NULL: no log is kept */
     const char *path;
-    struct numbers last[2]; /* of each end, as they were written last */
+    struct numbers last[2]; /* of each end, as last written */
 };
 
-/* Ends the program where the line before was not written. */
+/* Ends the program if the previous line was not written. */
 static void log_written(const struct event_log *l, int holds) {
     if (!holds)
         die(FAILED, "%s: %s", l->path, strerror(errno));
 }
 
-/* A log in place of the file that is sent would destroy it. */
+/* A log written over the file being sent would destroy it. */
 static int same_file(const char *path, const char *other) {
     struct stat a, b;
     return stat(path, &a) == 0 && stat(other, &b) == 0 && a.st_dev == b.st_dev && a.st_ino == b.st_ino;
 }
 
-/* A path that is NULL keeps no log. */
+/* With a NULL path no log is kept. */
 static void log_open(struct event_log *l, const char *path, const char *source) {
     l->path = path;
     if (!path)

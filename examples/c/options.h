@@ -8,7 +8,7 @@
 #include <stdint.h>
 #include <string.h>
 
-/* What has decimals is kept in millionths: percent, milliseconds (so nanoseconds) and seconds (so microseconds). */
+/* Numbers with decimals are kept in millionths: percent, milliseconds (so nanoseconds) and seconds (so microseconds). */
 enum { MILLIONTHS = 1000000 };
 
 struct options {
@@ -50,12 +50,12 @@ static int is_separator(const char *text, size_t at) {
     return (text[at] == '_' || text[at] == ',') && at > 0 && digit(text, at - 1) < 10 && digit(text, at + 1) < 10;
 }
 
-/* What is too large stays at the largest number, for the caller to refuse. */
+/* A number that is too large saturates, for the caller to refuse. */
 static uint64_t times_ten_plus(uint64_t value, unsigned last) {
     return value > (UINT64_MAX - last) / 10 ? UINT64_MAX : 10 * value + last;
 }
 
-/* The whole number at the front of text, and where it ends: 0 where there is none. */
+/* The whole number at the front of text, and where it ends: 0 if there is none. */
 static size_t parse_whole(const char *text, uint64_t *value) {
     size_t at = 0;
     for (*value = 0; digit(text, at) < 10 || is_separator(text, at); at++)
@@ -64,7 +64,7 @@ static size_t parse_whole(const char *text, uint64_t *value) {
     return at;
 }
 
-/* Up to six decimals behind a point; answers where they end, 0 where none stands there or there are more. */
+/* Up to six decimals after a point; returns where they end, or 0 if there are none or more. */
 static size_t parse_decimals(const char *text, size_t at, uint64_t *value) {
     size_t from = ++at;
     uint64_t unit = MILLIONTHS;
@@ -98,7 +98,7 @@ struct option_row {
     uint64_t most;
 };
 
-/* Answers how many words of the command line the option takes. */
+/* Returns how many words of the command line the option takes. */
 static int parse_option(const struct option_row *row, const char *value) {
     if (row->kind == FLAG) {
         *(int *)row->value = 1;

@@ -1,4 +1,4 @@
-/* What a run prints: how far it is, on standard error, and its summary, on standard output. */
+/* What a run prints: its progress, on standard error, and its summary, on standard output. */
 #ifndef REPORT_H
 #define REPORT_H
 
@@ -25,7 +25,7 @@ static struct text grouped(uint64_t n) {
     return t;
 }
 
-/* A number with decimals, all of them, such as nanoseconds as seconds. */
+/* A number with all its decimals, such as nanoseconds as seconds. */
 static struct text with_decimals(uint64_t n, uint64_t unit, int decimals) {
     struct text t = grouped(n / unit);
     size_t at = strlen(t.of);
@@ -33,7 +33,7 @@ static struct text with_decimals(uint64_t n, uint64_t unit, int decimals) {
     return t;
 }
 
-/* Millionths, without zeros at the end: an option as it was given. */
+/* Millionths, without trailing zeros: an option as it was given. */
 static struct text trimmed(uint64_t millionths) {
     struct text t = with_decimals(millionths, MILLIONTHS, 6);
     size_t at = strlen(t.of);
@@ -76,7 +76,7 @@ static void show_progress(struct watch *w, const struct transfer *t, double now)
     w->next = now + (w->terminal ? 0.2 : 10);
 }
 
-/* Called often: prints where the run is, and ends it at its limit. */
+/* Called often: prints the run's progress, and ends it at its limit. */
 static void watch_run(struct watch *w, const struct transfer *t) {
     double now = wall_seconds();
     if (now - w->start >= w->limit)
@@ -156,7 +156,7 @@ static void print_checksums(const struct side *hub, const struct side *gateway) 
     print_row("checksum of what it read", checksum_text(&hub->of_read).of, checksum_text(&gateway->of_read).of);
 }
 
-/* Whether what one side sent is what the other read; says where not. */
+/* Whether what one side sent is what the other read; prints where not. */
 static int print_verdict(const struct side *from, const char *name, const struct side *to) {
     if (to->wrong)
         printf("byte %s of what the %s sent was read as another byte\n", grouped(to->wrong_at).of, name);
@@ -167,7 +167,7 @@ static int print_verdict(const struct side *from, const char *name, const struct
     return 0;
 }
 
-/* Answers whether all is as it should be. */
+/* Returns whether all is as it should be. */
 static int print_summary(const struct transfer *t, const struct options *o) {
     const struct side *hub = &t->side[HUB], *gateway = &t->side[GATEWAY];
     print_head(t, o);

@@ -1,7 +1,7 @@
 /*
- * The hub's samples: a source of bytes that can be made again from any offset.
+ * The hub's samples: a source of bytes that can be generated from any offset.
  *
- * A sample has 30 bytes, its numbers are little-endian:
+ * A sample has 30 bytes; its numbers are little-endian:
  *
  *     at   bytes
  *      0       8   counter: k in sample k
@@ -12,7 +12,7 @@
  *     24       4   battery voltage in mV
  *     28       2   check: the Internet checksum (RFC 1071) of bytes 0 to 27 as 14 little-endian words
  *
- * Sample k depends on k alone, by integer arithmetic, so that a receiver makes the bytes it expects by itself.
+ * Sample k depends only on k, by integer arithmetic, so that a receiver can generate the bytes it expects.
  */
 #ifndef SAMPLES_H
 #define SAMPLES_H
@@ -29,7 +29,7 @@ static inline void sample_put(uint8_t *to, uint64_t value, int width) {
         to[i] = (uint8_t)(value >> 8 * i);
 }
 
-/* From 0 up to height and back in period samples: what turns slowly and comes back. */
+/* A triangle wave: from 0 up to height and back in period samples. */
 static inline int32_t sample_swing(uint64_t k, uint32_t period, uint32_t height) {
     uint64_t half = period / 2, x = k % period;
     return (int32_t)((x < half ? x : period - x) * height / half);
@@ -61,7 +61,7 @@ static inline void sample_make(uint64_t k, uint8_t *to) {
     sample_put(to + 28, sample_check(to), 2);
 }
 
-/* The bytes from offset on of the endless row of samples first, first + 1, .. */
+/* The bytes from offset on of the endless sequence of samples first, first + 1, .. */
 static inline void samples_bytes(uint64_t first, uint64_t offset, uint8_t *to, size_t count) {
     uint64_t k = first + offset / SAMPLE_SIZE;
     size_t skip = (size_t)(offset % SAMPLE_SIZE);

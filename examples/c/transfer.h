@@ -25,7 +25,7 @@ struct outbox {
 };
 
 struct counts {
-    uint64_t bytes_again;          /* written once more, on a stream opened afresh */
+    uint64_t bytes_again;          /* written again, on a fresh stream */
     uint64_t data, resent, states; /* packets taken */
     uint64_t lost, repeated, held; /* by the line, of what this side sent */
     uint64_t delivered;            /* to this side */
@@ -39,7 +39,7 @@ struct side {
     struct source source;
     struct outbox outbox;
     uint32_t next_data;  /* number of the next data packet that is sent for the first time */
-    uint64_t sent, read; /* bytes of the own source accepted at least once; of the other side's source read */
+    uint64_t sent, read; /* bytes of its own source accepted at least once; of the other side's source read */
     struct checksum of_sent, of_read;
     int wrong;         /* a byte read was not the byte sent: */
     uint64_t wrong_at; /* the first such offset */
@@ -54,7 +54,7 @@ struct transfer {
     uint64_t datagrams;    /* taken so far: the next one's number in the log */
     uint64_t streams;      /* opened so far */
     uint64_t read_at_open; /* bytes read when the stream was opened */
-    uint64_t idle_streams; /* streams one after another that brought none */
+    uint64_t idle_streams; /* consecutive streams that brought none */
     int done;              /* both ends were closed and driven until they were done */
     uint8_t batch[UDX_TAKE_ROOM], got[FULL_STREAM], expected[FULL_STREAM];
 };

@@ -1,6 +1,6 @@
 /*
  * What hub, gateway and relay share: messages, options, the clock, signals, sockets and the progress line.
- * Include it first: it asks the system headers for POSIX and ppoll.
+ * Include it first: it makes the system headers declare POSIX and ppoll.
  */
 #ifndef UDP_COMMON_H
 #define UDP_COMMON_H
@@ -32,7 +32,7 @@ enum { STATUS_FAILED = 1, STATUS_USAGE = 2 };
 /* MESSAGES: one line each on standard error, with the program's name in front. */
 
 static const char *program_name = "?";
-static bool progress_stands; /* the terminal's cursor is behind a progress line */
+static bool progress_stands; /* the terminal's cursor is after a progress line */
 
 static inline void complain_with(const char *format, va_list arguments) {
     fprintf(stderr, "%s%s: ", progress_stands ? "\n" : "", program_name);
@@ -56,13 +56,13 @@ _Noreturn static inline void die(int status, const char *format, ...) {
     exit(status);
 }
 
-/* What stands in the output's buffer goes out now; a closed pipe or a full disk ends the program. */
+/* Flushes the output; a closed pipe or a full disk ends the program. */
 static inline void flush_output(void) {
     if (fflush(stdout) != 0 || ferror(stdout))
         die(STATUS_FAILED, "standard output: %s", strerror(errno));
 }
 
-/* CLOCK: nanoseconds that never run backwards, as the engine wants them. */
+/* CLOCK: nanoseconds that never run backwards, as the engine requires. */
 
 static inline uint64_t now(void) {
     struct timespec t;
@@ -96,7 +96,7 @@ static inline void end_progress(void) {
     progress_stands = false;
 }
 
-/* SIGNALS: SIGINT and SIGTERM ask a program to end; its loop looks at the flag. */
+/* SIGNALS: SIGINT and SIGTERM ask a program to end; its loop checks the flag. */
 
 static volatile sig_atomic_t stop_asked;
 
@@ -106,8 +106,8 @@ static inline void ask_to_stop(int number) {
 }
 
 /*
- * Waits for a datagram at one of the sockets, until the instant, or for a signal: one that comes between the look at the flag and the wait
- * would be slept over, so signals come only inside ppoll, which also counts in nanoseconds, as the engine's deadline does.
+ * Waits for a datagram at one of the sockets, until the instant, or for a signal. A signal between the check of the flag and the wait would
+ * be missed, so signals are let in only inside ppoll, which also counts in nanoseconds, as the engine's deadline does.
  */
 static inline void wait_for_datagram(struct pollfd *sockets, nfds_t count, uint64_t until) {
     uint64_t clock = now(), span = until > clock ? until - clock : 0;
@@ -180,7 +180,7 @@ static inline void parse_options(int argc, char **argv, const char *about, const
     }
 }
 
-/* A closed standard stream is filled first: else a socket would get its number, and printf would write to the socket. */
+/* A closed standard stream is opened first: else a socket would get its number, and printf would write to the socket. */
 static inline void fill_standard_streams(void) {
     bool has_output = fcntl(STDOUT_FILENO, F_GETFD) >= 0;
     int filler;
@@ -200,7 +200,7 @@ static inline void start_program(const char *name) {
     fill_standard_streams();
     sigaction(SIGINT, &action, NULL);
     sigaction(SIGTERM, &action, NULL);
-    signal(SIGPIPE, SIG_IGN); /* a write then answers EPIPE, and flush_output says so */
+    signal(SIGPIPE, SIG_IGN); /* a write then fails with EPIPE, and flush_output says so */
 }
 
 /* SOCKETS: UDP on 127.0.0.1, never blocking. */
@@ -218,7 +218,7 @@ static inline int open_socket(void) {
     return s;
 }
 
-/* A socket bound to the port, or to any free one where it is 0. */
+/* A socket bound to the port, or to any free one if it is 0. */
 static inline int bind_to(uint64_t port) {
     struct sockaddr_in a = local_address(port);
     int s = open_socket();
@@ -227,7 +227,7 @@ static inline int bind_to(uint64_t port) {
     return s;
 }
 
-/* The first line of a program that listens: who starts it reads the port there. */
+/* The first line of a program that listens: whoever starts it reads the port there. */
 static inline void print_port(int socket) {
     struct sockaddr_in a;
     socklen_t length = sizeof a;
@@ -237,7 +237,7 @@ static inline void print_port(int socket) {
     flush_output();
 }
 
-/* A socket that sends to the port and hears only what comes from there. */
+/* A socket that sends to the port and receives only what comes from there. */
 static inline int connect_to(uint64_t port) {
     struct sockaddr_in a = local_address(port);
     int s = open_socket();
@@ -247,8 +247,8 @@ static inline int connect_to(uint64_t port) {
 }
 
 /*
- * Sends one datagram, to NULL from a connected socket. False: it did not go, which a stream repairs like any other loss.
- * ECONNREFUSED tells that nobody listened when an earlier datagram came there. The present one has not gone then: it is sent again.
+ * Sends one datagram; the address is NULL for a connected socket. False: it was not sent, which a stream repairs like any other loss.
+ * ECONNREFUSED means that nobody listened when an earlier datagram arrived. This one was not sent then: it is tried again.
  */
 static inline bool send_datagram(int socket, const struct sockaddr_in *to, const uint8_t *bytes, size_t length) {
     for (int tries = 0; tries < 2; tries++) {
@@ -262,7 +262,7 @@ static inline bool send_datagram(int socket, const struct sockaddr_in *to, const
     return false;
 }
 
-/* The length of the next datagram that waits, or -1 where none does. */
+/* The length of the next pending datagram, or -1 if there is none. */
 static inline ssize_t receive_datagram(int socket, struct sockaddr_in *from, uint8_t *buf, size_t room) {
     for (;;) {
         socklen_t length = sizeof *from;

@@ -1,11 +1,11 @@
 /*
  * The gateway: receives a stream over UDP, reads it, and checks every byte of its samples or writes the bytes to a file.
  *
- * How a transfer ends. The hub says END when all is acknowledged, and again until an END of the gateway answers. Each END delivered queues
- * such an answer, so the gateway stays for LINGER after the last datagram: three of the hub's repeats. Every END may be lost: then the
+ * How a transfer ends. The hub sends END when everything is acknowledged, and again until the gateway's END arrives. Each END delivered
+ * queues such an answer, so the gateway stays for LINGER after the last datagram: three of the hub's repeats. If every END is lost, the
  * gateway ends after --idle seconds without a datagram. A hub that waits for an acknowledgement is never silent for longer than 2 rto, and
- * its stream fails after 1 + 2 + 2 + 2 of them, 7 s with the least rto: after 10 s nobody is there. Whether the transfer is whole does not
- * hang on how it ended: the hub announces the number of bytes in front of them.
+ * its stream fails after 1 + 2 + 2 + 2 of them, 7 s with the least rto: after 10 s nobody is there. Whether the transfer is complete does
+ * not depend on how it ended: the hub announces the number of bytes in front of them.
  */
 #include "common.h"
 
@@ -29,7 +29,7 @@ struct sink {
     FILE *file; /* NULL: samples, to be checked */
     const char *path;
     uint64_t size;            /* as the hub announced it */
-    uint64_t announced, read; /* bytes of the announcement, and bytes behind it, so far */
+    uint64_t announced, read; /* bytes of the announcement, and bytes after it, so far */
     bool has_failed;          /* a byte was wrong or could not be written; a message has said which */
 };
 
@@ -40,7 +40,7 @@ static size_t take_announcement(struct sink *s, const uint8_t *bytes, size_t cou
     return used;
 }
 
-/* Compares the bytes with those that the samples have at this place. */
+/* Compares the bytes with those of the samples at this place. */
 static bool check_samples(struct sink *s, const uint8_t *bytes, size_t count) {
     static uint8_t expected[UDX_INCOMING_STORE];
     size_t same = 0;
@@ -62,7 +62,7 @@ static bool write_file(struct sink *s, const uint8_t *bytes, size_t count) {
     return true;
 }
 
-/* Reads until a read puts nothing. A read puts bytes whatever it answers: they count in each case. */
+/* Reads until a read puts nothing. A read can put bytes whatever it returns: they count in each case. */
 static void read_all(struct link *l, struct sink *s) {
     static uint8_t buf[UDX_INCOMING_STORE];
     udx_answer a;
@@ -74,7 +74,7 @@ static void read_all(struct link *l, struct sink *s) {
     } while (a.count > 0 && !s->has_failed);
 }
 
-/* Until when the gateway waits for the next datagram: for the first one without end. */
+/* Until when the gateway waits for the next datagram: for the first one, forever. */
 static uint64_t patience(const struct link *l, uint64_t idle) {
     if (!l->has_peer)
         return NEVER;
@@ -87,7 +87,7 @@ static void receive_all(struct link *l, struct sink *s, uint64_t idle) {
         link_wait(l, patience(l, idle));
         link_receive(l);
         read_all(l, s);
-        /* with nothing queued a drive would end a closed stream, and the hub's repeated ENDs would find no answer */
+        /* with nothing queued a drive would end a closed stream, and the hub's repeated ENDs would get no answer */
         if (l->end.stream.queue.count > 0)
             link_drive(l);
     }

@@ -1,9 +1,9 @@
 /*
  * The hub: sends samples, or a file, over UDP to the gateway.
  *
- * How a transfer ends. The hub closes only when all that it wrote is acknowledged, so nothing can be lost by the close. The END that a
- * close sends is no packet: the engine does not send it again. So the hub closes again, which queues another END, until the gateway's own
- * END answers, or gives up after END_TRIES: the bytes have arrived in any case, and the gateway ends by itself once the line is quiet.
+ * How a transfer ends. The hub closes only when everything it wrote is acknowledged, so the close can lose nothing. The END that a close
+ * sends is not a packet: the engine does not resend it. So the hub closes again, which queues another END, until the gateway's own END
+ * arrives, or gives up after END_TRIES: the bytes have arrived in any case, and the gateway ends by itself once the line is quiet.
  */
 #include "common.h"
 
@@ -26,7 +26,7 @@ static const char about[] =
     "to go on opens a new stream, with new ids on both sides, at the first byte that the gateway has not read.\n"
     "\n";
 
-/* What is sent: the bytes of a file, or of samples, which are made when their time has come. */
+/* What is sent: the bytes of a file, or of samples, which are generated when they are due. */
 struct source {
     FILE *file; /* NULL: samples */
     const char *path;
@@ -71,7 +71,7 @@ static void load_samples(struct source *s) {
     }
 }
 
-/* When there is more to write by itself: only samples that are paced, and only while there is room for them. */
+/* When there is more to write without an event: only paced samples, and only while there is room for them. */
 static uint64_t next_load(const struct source *s) {
     bool is_paced = s->rate && s->loaded < s->size && sizeof s->pending - s->count >= SAMPLE_SIZE;
     return is_paced ? next_sample(s) : NEVER;
@@ -135,7 +135,7 @@ static bool send_all(struct link *l, struct source *s) {
     return false;
 }
 
-/* Says END until the gateway has answered it, then drives until done: the head of this file says why. */
+/* Sends END until the gateway has answered it, then drives until done: the top of this file says why. */
 static void close_stream(struct link *l) {
     for (int i = 0; i < END_TRIES && !link_heard_end(l) && !stop_asked; i++) {
         uint64_t until = now() + END_PAUSE;

@@ -17,7 +17,7 @@
 enum { HUB_ID = 1, GATEWAY_ID = 2 };
 
 enum {
-    MOST_SEGMENTS = 10, /* datagrams of a batch */
+    MOST_SEGMENTS = 10, /* datagrams in a batch */
     MOST_RECEIVED = 31, /* before a drive: a datagram queues two state packets at most, and refusal 13 comes at 62 */
     LAST_REFUSAL = UDX_REFUSED_SEQ_EXHAUSTED,
     TYPE_DATA = 1 /* bit of a header's type */
@@ -40,7 +40,7 @@ struct link {
     uint64_t timeouts;                   /* drives that found the timer due */
 };
 
-/* A call that may only be refused where this program is wrong. */
+/* A call that is refused only if this program has a bug. */
 static inline udx_answer expect(const char *call, udx_answer a) {
     if (a.outcome == UDX_REFUSED)
         die(STATUS_FAILED, "%s: refusal %d", call, a.refusal);
@@ -54,7 +54,7 @@ static inline void link_open(struct link *l, int socket, bool is_connected, uint
     expect("open", udx_end_open(&l->end, local, remote, MOST_SEGMENTS, l->opened));
 }
 
-/* Some packet is not acknowledged yet, so the deadline counts. */
+/* Whether a packet is not acknowledged yet, so that the deadline counts. */
 static inline bool link_waits(const struct link *l) { return l->end.stream.sender.remote_acked != l->end.stream.sender.seq; }
 
 static inline bool link_heard_end(const struct link *l) {
@@ -70,7 +70,7 @@ static inline void link_note(struct link *l, const struct sockaddr_in *from, uin
     l->heard = clock;
 }
 
-/* Delivers the datagrams that wait. A refused one is dropped: if it was the stream's, it comes again. */
+/* Delivers the pending datagrams. A refused one is dropped: if it was the stream's, it will be resent. */
 static inline void link_receive(struct link *l) {
     uint8_t datagram[2048];
     struct sockaddr_in from;
@@ -99,8 +99,8 @@ static inline void link_count_sent(struct link *l, const uint8_t *datagram, size
 }
 
 /*
- * Sends the datagrams of a batch: pieces of segment bytes, or one where segment is 0. Linux could take the whole batch in one sendmsg with
- * UDP_SEGMENT (UDP GSO), segment being its size; left out here, so that the loop is the same on every system.
+ * Sends the datagrams of a batch: pieces of segment bytes, or one if segment is 0. Linux could take the whole batch in one sendmsg with
+ * UDP_SEGMENT (UDP GSO), segment being its size; not used here, so that the loop is the same on every system.
  */
 static inline void link_send(struct link *l, const uint8_t *batch, udx_answer a) {
     size_t step = a.segment ? a.segment : a.count;
@@ -136,7 +136,7 @@ static inline void link_wait(struct link *l, uint64_t until) {
     wait_for_datagram(&socket, 1, until);
 }
 
-/* Ends the stream before its time: the other side hears an END, if that one datagram arrives. */
+/* Ends the stream early: the other side gets an END, if that one datagram arrives. */
 static inline void link_abort(struct link *l) {
     if (l->end.stream.ending.ended || (!l->is_connected && !l->has_peer))
         return;

@@ -1,6 +1,6 @@
 /*
- * The relay: stands between hub and gateway, forwards datagrams both ways, and is a bad line: it drops, repeats and holds back.
- * The fate of the k-th datagram of a direction hangs on the seed alone.
+ * The relay: sits between hub and gateway, forwards datagrams both ways, and acts as a bad line: it drops, repeats and holds back.
+ * The fate of the k-th datagram of a direction depends on the seed alone.
  */
 #include "common.h"
 
@@ -29,7 +29,7 @@ struct way {
     uint64_t came, dropped, repeated, delayed, overflowed, forwarded, unsent;
 };
 
-/* A datagram on its way. Equal instants keep the order in which they came. */
+/* A datagram in transit. At equal instants they keep the order in which they came. */
 struct held {
     struct way *way;
     uint64_t due, order;
@@ -64,7 +64,7 @@ static void hold(struct way *w, uint64_t due, const uint8_t *bytes, size_t lengt
     memcpy(h->bytes, bytes, length);
 }
 
-/* What becomes of a datagram. The draws are the same in number whatever they say, so that each datagram has its own. */
+/* Decides a datagram's fate. The number of draws is always the same, so that each datagram has its own. */
 static void meet_fate(struct way *w, const struct line *line, const uint8_t *bytes, size_t length) {
     bool is_lost = draw(w) * 100 < line->loss, is_repeated = draw(w) * 100 < line->repeat, is_delayed = draw(w) * 100 < line->reorder;
     uint64_t span = (uint64_t)(1 + draw(w) * 29) * MILLISECOND; /* long enough to be overtaken */
@@ -80,7 +80,7 @@ static void meet_fate(struct way *w, const struct line *line, const uint8_t *byt
         hold(w, due + span, bytes, length);
 }
 
-/* Takes in what waits at a direction's socket. */
+/* Receives what is pending at a direction's socket. */
 static void receive_way(struct way *w, const struct line *line, struct sockaddr_in *sender) {
     uint8_t bytes[MOST_BYTES];
     for (int i = 0; i < MOST_HELD; i++) {

@@ -1,6 +1,6 @@
 /*
- * The boundary from C and from C++: layout, 01's example session, and garbage in every field and every length. Says what failed, and ends
- * with a count of checks.
+ * Tests the boundary from C and C++: layout, 01's example session, and garbage in every field and every length. Prints what failed, and at
+ * the end a count of checks.
  */
 #ifndef _GNU_SOURCE
 #define _GNU_SOURCE /* MAP_ANONYMOUS */
@@ -69,7 +69,7 @@ static void layout(void) {
     EXPECT(sizeof(udx_part) == 24 && sizeof(udx_header) == 20 && sizeof(udx_decoded) == 24 && sizeof(udx_numbers) == 192);
 }
 
-/* What goes in arrives: every field with a value of its own that fills it. */
+/* What goes in arrives: every field has its own value that fills it. */
 static void arrives(void) {
     udx_stream s;
     udx_totals t;
@@ -179,7 +179,7 @@ static void busy(udx_end *e, int driven) {
     memcpy(e, &ends[1], sizeof *e);
 }
 
-/* garbage: an end whose arrays are each a block of its own that ends at a page which nothing may touch, so that a step past one ends the run */
+/* garbage: an end whose arrays are blocks of their own, each in front of a page that nothing may touch, so that a step past one crashes */
 
 typedef struct lent_end {
     udx_stream stream;
@@ -272,7 +272,7 @@ static udx_step call(int which, lent_end *l, uint8_t *buf, size_t length, uint64
 static size_t shown;        /* by the last look */
 static unsigned long taken; /* takes that put bytes */
 
-/* Every call on this end: each answers by 01's numbers, and a refused one has changed nothing. How many of them answered refusal 1. */
+/* Makes every call on this end: each returns by 01's numbers, and a refused one has changed nothing. Returns how many met refusal 1. */
 static int every_call(const udx_end *e, size_t outgoing, size_t incoming, size_t headers, uint8_t *buf, size_t length, uint64_t clock) {
     int broken = 0;
     uint8_t *before = (uint8_t *)copy(buf, length);
@@ -564,7 +564,7 @@ static void garbage(int rounds) {
         }
         every_call(&f, UDX_OUTGOING_STORE, UDX_INCOMING_STORE, UDX_HEADER_STORE, buf, length, any() % 8 ? 3 + any() % 3 : some() << any() % 40);
     }
-    /* so that what is said of takes was said of some that put bytes */
+    /* so that the checks of takes met some that put bytes */
     EXPECT(taken >= (unsigned long)rounds / 32);
 }
 

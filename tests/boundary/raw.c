@@ -1,4 +1,4 @@
-/* A struct of more than 16 bytes comes back through a pointer that the caller hands in first (System V), so it can be caught as bytes. */
+/* A struct of more than 16 bytes is returned through a pointer, the call's first argument (System V), so it can be caught as bytes. */
 #include "raw.h"
 #include <stdint.h>
 #include <string.h>
@@ -8,7 +8,7 @@ extern void *udx_decode(void *out, const uint8_t *datagram, size_t length);
 
 static uint8_t out[2][4096];
 
-/* The step on two grounds: what differs between them was not written. */
+/* The step over two backgrounds: bytes that differ between them were not written. */
 static void catch_step(void) {
     for (int i = 0; i < 2; i++) {
         memset(out[i], i ? 0xA5 : 0x5A, sizeof out[i]);

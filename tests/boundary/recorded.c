@@ -1,6 +1,6 @@
 /*
- * The recorded session scripts (crates/drill_replay/data/scripts.bin, named by the first argument) through udx.h: each line is held to the
- * original's answer. Names the first script that differs, and ends with status 1 then.
+ * The recorded session scripts (crates/drill_replay/data/scripts.bin, named by the first argument) through udx.h: each line is compared
+ * with the original's. Names the first script that differs, and then ends with status 1.
  */
 #include "udx.h"
 #include <stdio.h>

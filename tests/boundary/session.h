@@ -1,5 +1,6 @@
 /*
- * 01's session through udx.h: ends 0 (id 1) and 1 (id 2), and the last 32 datagrams that each has taken. The includer has EXPECT(condition).
+ * 01's session through udx.h: ends 0 (id 1) and 1 (id 2), and the last 32 datagrams that each has taken. The includer defines
+ * EXPECT(condition).
  */
 static udx_end ends[2];
 static uint8_t batch[UDX_TAKE_ROOM];
@@ -67,14 +68,14 @@ static udx_answer take_and_keep(int end) {
     memcpy(first, next, shown);
     udx_answer a = udx_end_take(e, batch, sizeof batch);
     size_t step = a.segment ? a.segment : a.count;
-    /* a batch whose packets have all left is empty, and look has shown a later one */
+    /* a batch whose packets have all left is empty, and look has shown a later datagram */
     EXPECT(a.count == 0 || (shown == step && memcmp(first, batch, shown) == 0));
     for (size_t i = 0; i < a.count; i += step)
         keep(end, batch + i, step);
     return a;
 }
 
-/* Whether the command at p, with so many bytes left, can be run; the run ends where not. */
+/* Whether the command at p, with this many bytes left, can be run; if not, the run ends. */
 static int runs(const uint8_t *p, size_t left) {
     static const size_t widths[7] = {0, 4, 9, 1, 11, 3, 1};
     if (p[0] < 1 || p[0] > 6 || left <= widths[p[0]] || p[1] > 1)
@@ -84,7 +85,7 @@ static int runs(const uint8_t *p, size_t left) {
     return p[0] != 5 || operand(p + 2, 2) <= 4096;
 }
 
-/* Runs one command, puts its line without its end, and answers how many bytes it has. */
+/* Runs one command, puts its line without the newline, and returns how many bytes the command has. */
 static size_t run_command(struct lines *l, const uint8_t *p) {
     static uint8_t bytes[65536];
     int end = p[1];

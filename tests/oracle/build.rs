@@ -32,7 +32,7 @@ fn main() {
     fs::write(out.join("mutants.rs"), mutants).unwrap();
 }
 
-/// One module for each mutation, with changed copies of all files, which build.rs puts into cargo's own folder.
+/// One module for each mutation, with changed copies of all files, which build.rs puts into cargo's output folder.
 fn mutants(source: &Path, ours: &Path, out: &Path) -> String {
     let mut text = String::new();
     let mut engines = String::new();

@@ -8,9 +8,9 @@ use std::hint::black_box;
 use std::time::Instant;
 
 const SEED: u64 = 1;
-/// Packets before the first that is timed: they open the window for 32 packets.
+/// Packets before the first timed one: they open the window for 32 packets.
 const WARM: u64 = 2_048;
-/// Packets of the check: enough for streams that fail.
+/// Packets of the check: enough for some streams to fail.
 const CHECKED: u64 = 100_000;
 
 pub struct Case {
@@ -21,14 +21,14 @@ pub struct Case {
     losses: Losses,
 }
 
-/// What happens in a case: in every pass that is timed, and in the check, which is the same and goes on.
+/// What happens in a case: in every timed pass, and in the whole check, which starts like a pass and goes on.
 #[derive(Clone, Copy, Debug, Default, PartialEq, Eq)]
 pub struct Checked {
     pub pass: Counts,
     pub whole: Counts,
 }
 
-/// One pass of an engine: what happened, and nanoseconds, of a packet or of the calls of each kind in a round.
+/// One pass of an engine: what happened, and nanoseconds, per packet or for each round's calls of a kind.
 pub struct Pass {
     pub counts: Counts,
     pub nanos: Vec<f64>,
@@ -104,14 +104,14 @@ fn check<E: End>(case: &Case) -> Result<Checked, String> {
     Ok(Checked { pass, whole })
 }
 
-/// Every round had all its packets, each with one datagram and one acknowledgement.
+/// Whether every round had all its packets, each with one datagram and one acknowledgement.
 fn is_lossless(load: Load, before: Counts, after: Counts) -> bool {
     let packets = after.packets - before.packets;
     let full = packets == (after.rounds - before.rounds) * load.flight as u64;
     full && after.datagrams - before.datagrams == 2 * packets && after.timeouts == 0
 }
 
-/// The bytes of the last round, compared when the time was taken.
+/// Compares the bytes of the last round, after the clock was stopped.
 fn right<E: End>(run: &Run<E>, nanos: Vec<f64>) -> Result<Pass, String> {
     if run.is_right() {
         Ok(Pass { counts: run.counts, nanos })

@@ -29,7 +29,7 @@ struct Records {
     headers: [u8; 1_280],
 }
 
-/// The C functions: records, words and the three stores with their lengths, then what the call has of its own.
+/// The C functions: records, words and the three stores with their lengths, then the call's own arguments.
 macro_rules! calls {
     ($($name:ident($($own:ident: $kind:ty),*) -> $answer:ty;)*) => {
         extern "C" {
@@ -62,7 +62,7 @@ calls! {
 macro_rules! call {
     ($end:expr, $name:ident, $($own:expr),*) => {{
         let r = &mut *$end.0;
-        // SAFETY: every pointer and length is that of a field or of a slice that is lent for the call, and no two of them overlap.
+        // SAFETY: every pointer and length is that of a field or of a slice borrowed for the call, and no two of them overlap.
         unsafe {
             $name(
                 &mut r.numbers,
@@ -88,7 +88,7 @@ impl End for Direct {
         vec![0; LINE]
     }
 
-    /// What `open` answers, as numbers.
+    /// What `open` returns, as numbers.
     fn open(clock: u64) -> Self {
         let mut numbers = [0; 24];
         numbers[CWND] = FRESH_WINDOW;

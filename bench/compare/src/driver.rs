@@ -5,7 +5,7 @@ use crate::end::{Driven, End, HEADER};
 use crate::line::{Losses, Source};
 use crate::watch::{Call, Watch};
 
-/// Nanoseconds that a datagram is on its way.
+/// Nanoseconds that a datagram takes to arrive.
 const ONE_WAY: u64 = 5_000_000;
 
 /// Packets of `size` bytes; at most `flight` of them are written before all are acknowledged.
@@ -25,13 +25,13 @@ pub struct Counts {
     pub datagrams: u64,
     /// Drives at the deadline of a packet that was not acknowledged.
     pub timeouts: u64,
-    /// Streams that ended with TimedOut; a fresh pair of ends went on.
+    /// Streams that ended with TimedOut; a fresh pair of ends continued.
     pub failures: u64,
-    /// The clock at the end.
+    /// The final clock.
     pub clock: u64,
 }
 
-/// What is to be done after the hub was driven and its datagrams have gone.
+/// What to do after the hub was driven and its datagrams sent.
 enum Next {
     Answer,
     WaitFor(u64),
@@ -42,7 +42,7 @@ enum Next {
 const QUEUES: [Call; 3] = [Call::DriveQueues, Call::TakeData, Call::DeliverData];
 const SETTLES: [Call; 3] = [Call::DriveSettles, Call::TakeNone, Call::DeliverData];
 
-/// The datagrams on their way, and which of them are lost.
+/// The datagrams in transit, and which of them are lost.
 struct Line<'a, E: End> {
     taken: E::Line,
     losses: &'a Losses,
@@ -50,7 +50,7 @@ struct Line<'a, E: End> {
 }
 
 impl<E: End> Line<'_, E> {
-    /// All that one end has to take goes to the other: how many datagrams of this size.
+    /// Carries all that one end has to take to the other; returns how many datagrams of this size.
     fn carry<W: Watch>(&mut self, from: &mut E, to: &mut E, size: usize, counts: &mut Counts, calls: [Call; 2], watch: &mut W) -> usize {
         let count = from.take(&mut self.taken, size);
         watch.lap(calls[0]);
@@ -84,7 +84,7 @@ impl<'a, E: End> Run<'a, E> {
             losses,
             place: 0,
         };
-        // Room for a packet more than a round has, so that its last read is made and finds none.
+        // Room for one packet more than a round has, so that the last read is made and finds none.
         let got = vec![0; (load.flight + 1) * load.size];
         Run {
             hub: E::open(0),
@@ -99,7 +99,7 @@ impl<'a, E: End> Run<'a, E> {
         }
     }
 
-    /// Rounds until so many packets more were read.
+    /// Runs rounds until this many more packets were read.
     pub fn packets<W: Watch>(&mut self, more: u64, watch: &mut W) {
         let end = self.counts.packets + more;
         while self.counts.packets < end {
@@ -107,7 +107,7 @@ impl<'a, E: End> Run<'a, E> {
         }
     }
 
-    /// The last round read what was written.
+    /// Whether the last round read what was written.
     pub fn is_right(&self) -> bool {
         self.got[..self.read] == *self.sent(self.read)
     }
@@ -117,8 +117,8 @@ impl<'a, E: End> Run<'a, E> {
         self.source.part(self.first * self.load.size as u64, length)
     }
 
-    /// Packets are written as the window allows; datagrams go to and fro until all packets are settled, or the stream fails: a fresh
-    /// pair of ends goes on then at the first byte that was not read.
+    /// Writes packets as the window allows; datagrams go back and forth until all packets are settled or the stream fails. A fresh pair
+    /// of ends then continues at the first byte that was not read.
     fn round<W: Watch>(&mut self, watch: &mut W) {
         let Load { size, flight } = self.load;
         self.first = self.counts.packets;

@@ -18,7 +18,7 @@ impl Random {
     }
 }
 
-/// For one datagram after another, data and acknowledgements alike, whether it is lost: drawn before anything is timed.
+/// Whether each datagram in turn, data or acknowledgement, is lost: drawn before anything is timed.
 pub struct Losses {
     lost: Vec<u8>,
 }
@@ -31,7 +31,7 @@ impl Losses {
         }
     }
 
-    /// Those of the next `count` datagrams from this place on, which is moved.
+    /// Those of the next `count` datagrams from `place` on; advances `place`.
     pub fn next(&self, place: &mut usize, count: usize) -> &[u8] {
         if *place + count > DRAWN {
             *place = 0;

@@ -1,4 +1,4 @@
-//! The engine beside the original it is a port of, in one run and from one driver. See bench/README.md.
+//! Times the engine beside the original it is a port of, in one run and with one driver. See bench/README.md.
 
 mod boundary;
 mod case;
@@ -56,7 +56,7 @@ fn apart(number: usize, options: &Options) -> Result<Found, String> {
     found.ok_or(format!("row {number} could not be timed"))
 }
 
-/// The tables of all rows, or what was found of the one that was asked for.
+/// The tables of all rows, or the results of the one requested.
 fn answer(options: &Options) -> Result<String, String> {
     let rows = rows::all();
     if let Some(number) = options.row {

@@ -1,4 +1,4 @@
-//! What was found of a row as a line of numbers, from the process that timed it to the one that asked.
+//! A row's results as a line of numbers, from the process that timed it to the one that asked.
 
 use crate::driver::Counts;
 use crate::rows::Found;
@@ -20,7 +20,7 @@ fn joined<T: ToString>(numbers: &[T]) -> String {
     numbers.iter().map(T::to_string).collect::<Vec<_>>().join(" ")
 }
 
-/// None where the line is not one of these.
+/// `None` if the line is not one of these.
 pub fn found(line: &str) -> Option<Found> {
     let mut parts = line.trim_end().split(PART);
     let (counts, copy) = parts.next()?.rsplit_once(' ')?;

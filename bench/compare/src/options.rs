@@ -1,4 +1,4 @@
-//! The words of the command line.
+//! The command line.
 
 pub const HELP: &str = "\
 compare: the engine beside the original, nanoseconds of a packet's path and of each call, as Markdown tables
@@ -18,7 +18,7 @@ pub struct Options {
     pub only: Option<String>,
 }
 
-/// What to do, or none where help was asked for.
+/// The options, or `None` if help was requested.
 pub fn read(words: impl Iterator<Item = String>) -> Result<Option<Options>, String> {
     let mut options = Options {
         passes: 100,

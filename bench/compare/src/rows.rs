@@ -20,11 +20,11 @@ pub enum Kind {
 pub struct Row {
     pub kind: Kind,
     pub load: Load,
-    /// Datagrams lost of a hundred.
+    /// Percent of the datagrams lost.
     pub percent: u64,
 }
 
-/// What was found of a row: what happened in its check, a memcpy's nanoseconds, and those of each engine.
+/// A row's results: what happened in its check, a memcpy's nanoseconds, and those of each engine.
 pub struct Found {
     pub counts: Counts,
     pub copy: f64,
@@ -34,7 +34,7 @@ pub struct Found {
 const SIZES: [usize; 2] = [1_380, 30];
 const FLIGHTS: [usize; 3] = [1, 8, 32];
 const PERCENTS: [u64; 2] = [0, 5];
-/// Places on the stack that passes are made at, and bytes from one to the next, at least.
+/// How many stack depths the passes cycle through, and the least bytes from one to the next.
 const DEPTHS: u32 = 16;
 const FRAME: usize = 64;
 
@@ -54,7 +54,7 @@ pub fn all() -> Vec<Row> {
     rows
 }
 
-/// Times a row. The engines take turns in every pass, so that what else the machine does meets them alike.
+/// Times a row. The engines take turns in every pass, so that other load on the machine affects them alike.
 pub fn time(row: Row, engines: &Engines, options: &Options) -> Result<Found, String> {
     let case = Case::new(row.load, row.percent, options.packets);
     let checked = agreed(engines, &case)?;
@@ -92,7 +92,7 @@ fn agreed(engines: &Engines, case: &Case) -> Result<Checked, String> {
     Ok(agreed.unwrap_or_default())
 }
 
-/// The times of a pass in which the same has happened as in the check.
+/// The times of a pass, if the same happened in it as in the check.
 fn held(engine: &Engine, pass: Result<Pass, String>, due: Counts) -> Result<Vec<f64>, String> {
     let Pass { counts, nanos } = pass.map_err(|why| format!("{} {why}", engine.name))?;
     if counts != due {
@@ -101,8 +101,8 @@ fn held(engine: &Engine, pass: Result<Pass, String>, due: Counts) -> Result<Vec<
     Ok(nanos)
 }
 
-/// A pass made so many frames further down the stack: where structs lie there changes times by up to 8 %, and no engine should have its
-/// place by luck.
+/// A pass made `frames` frames further down the stack: the place of structs there changes times by up to 8 %, and no engine should win by
+/// a lucky place.
 #[inline(never)]
 fn deeper<T>(frames: u32, pass: &dyn Fn() -> T) -> T {
     black_box([0_u8; FRAME]);

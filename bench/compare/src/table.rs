@@ -27,7 +27,7 @@ fn nanos(value: Option<f64>) -> String {
     }
 }
 
-/// The original's time, then that of the port by both ways, each with its ratio to the original's.
+/// The original's time, then the port's, direct and through the boundary, each with its ratio to the original's.
 fn cells([original, direct, boundary]: [Option<f64>; 3]) -> String {
     let mut text = nanos(original);
     for port in [direct, boundary] {
@@ -46,7 +46,7 @@ fn bytes(size: usize) -> String {
     }
 }
 
-/// The rows of one kind, with what was found of them.
+/// The rows of one kind, with their results.
 fn of(kind: Kind, rows: &[(Row, Found)]) -> impl Iterator<Item = &(Row, Found)> {
     rows.iter().filter(move |(row, _)| row.kind == kind)
 }

@@ -1,4 +1,4 @@
-//! What looks on while the driver runs: nothing, a stopwatch for each kind of call, or a check of every byte.
+//! What watches the driver: nothing, a stopwatch for each kind of call, or a check of every byte.
 
 use std::time::Instant;
 
@@ -24,14 +24,14 @@ pub trait Watch {
     fn start(&mut self) {}
     /// The calls of a kind have just been made.
     fn lap(&mut self, _call: Call) {}
-    /// A round is over: the bytes read, and those that were to be read.
+    /// A round is over: the bytes read, and those expected.
     fn read(&mut self, _got: &[u8], _sent: &[u8]) {}
 }
 
 pub struct Nothing;
 impl Watch for Nothing {}
 
-/// Every byte that is read is the one that was written.
+/// Checks that every byte read is the one written.
 pub struct Check {
     pub holds: bool,
 }
@@ -56,7 +56,7 @@ impl Stopwatch {
         }
     }
 
-    /// For each kind, what `rounds` rounds took on average, without the time that the stopwatch itself takes.
+    /// The average time of each kind in a round, less the stopwatch's own.
     pub fn each(&self, rounds: u64) -> [f64; CALLS] {
         let own = Self::own();
         self.nanos.map(|nanos| (nanos as f64 / rounds as f64 - own).max(0.0))

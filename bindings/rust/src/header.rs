@@ -2,7 +2,7 @@
 use crate::raw;
 use crate::Refusal;
 
-/// Bytes of a header.
+/// The length of a header.
 pub const HEADER_SIZE: usize = 20;
 
 /// The header of a datagram.
@@ -37,7 +37,7 @@ impl Header {
     /// The payload is a list of SACK blocks.
     pub const SACK: u8 = 4;
 
-    /// Puts the header's 20 bytes at the front of `buf`; the rest of it stays. Refusal 2 with fewer.
+    /// Puts the header's 20 bytes at the front of `buf` and leaves the rest unchanged. Refusal 2 if `buf` is shorter.
     pub fn encode(&self, buf: &mut [u8]) -> Result<(), Refusal> {
         let header = raw::Header {
             stream_id: self.stream_id,
@@ -47,16 +47,16 @@ impl Header {
             typ: self.typ,
             data_offset: self.data_offset,
         };
-        // SAFETY: pointer and length are those of a slice lent for the call.
+        // SAFETY: pointer and length are those of a slice borrowed for the call.
         match unsafe { raw::udx_encode(header, buf.as_mut_ptr(), buf.len()) } {
             0 => Ok(()),
             number => Err(crate::refusal(number)),
         }
     }
 
-    /// The header at the front of a datagram; what follows it is not looked at. Refusal 7 where none stands there.
+    /// The header at the front of a datagram; what follows it is ignored. Refusal 7 if there is none.
     pub fn decode(datagram: &[u8]) -> Result<Header, Refusal> {
-        // SAFETY: pointer and length are those of a slice lent for the call.
+        // SAFETY: pointer and length are those of a slice borrowed for the call.
         let r = unsafe { raw::udx_decode(datagram.as_ptr(), datagram.len()) };
         if r.refusal != 0 {
             return Err(crate::refusal(r.refusal));

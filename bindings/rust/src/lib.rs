@@ -1,11 +1,11 @@
 //! One stream of ordered bytes over datagrams, with retransmission, a congestion window and a round-trip estimate.
 //!
-//! The engine behind it is proved: every call answers for every input, and what is read at one end is what was written at the other, in
+//! The engine behind it is proved: every call returns for every input, and what is read at one end is what was written at the other, in
 //! order, over any line that loses, repeats, delays or reorders datagrams. It owns no socket, clock or thread: bytes and instants go in,
-//! bytes and a [deadline](Stream::deadline) come out. This crate adds ownership: a [`Stream`] has its records and stores for itself, so
-//! that no caller can break the engine's rules.
+//! bytes and a [deadline](Stream::deadline) come out. This crate adds ownership: a [`Stream`] owns its records and stores, so no caller
+//! can break the engine's rules.
 //!
-//! Clocks are spans since a start of the caller's choice, such as `start.elapsed()`; they never run backwards from call to call.
+//! Clocks are spans since a start of the caller's choice, such as `start.elapsed()`; they must never run backwards from call to call.
 //!
 //! ```
 //! use std::time::Duration;
@@ -36,25 +36,26 @@
 //!    is to be sent, [close](Stream::close) if it is time to.
 //! 2. [Drive](Stream::drive) with the clock; with [`Driven::Done`] the stream needs no further call.
 //! 3. [Take](Stream::take) until `None`, and send each datagram. Until then writes, deliveries, drives and closes are refused.
-//! 4. Write again what still waits to be written, and close if it is time to; if any bytes were accepted or the stream was closed, go on
-//!    with step 2. Acknowledgements are settled in the drive, so there is where room comes from, and a caller that waits before it has
-//!    looked again may wait for ever.
+//! 4. Write again what is still pending, and close if it is time to; if any bytes were accepted or the stream was closed, go back to
+//!    step 2. Acknowledgements are settled in the drive, so that is where room comes from: a caller that waits without another try may
+//!    wait forever.
 //! 5. Wait for a datagram, for bytes to write, or for the [deadline](Stream::deadline).
 //!
 //! # The end of a stream
 //!
-//! A [close](Stream::close) ends both directions: what is not acknowledged then, at either end, may be lost. So it is time to close when
-//! all that was to be written is written, [nothing waits for an acknowledgement](Stream::deadline) and nothing more is wanted from the
-//! other end. The other end is told by an END, which the line may lose and no timer sends again.
+//! A [close](Stream::close) ends both directions: what is not acknowledged by then, at either end, may be lost. So close once everything
+//! is written, [nothing waits for an acknowledgement](Stream::deadline) and nothing more is wanted from the other end. The other end
+//! learns of it from an END, which the line may lose and no timer resends.
 //!
-//! - With an [error](Stream::error), by a close or by the other end's END, nothing that waits for an acknowledgement and nothing
-//!   [queued](Stream::queued) the next drive is the last: it answers [`Driven::Done`], and what comes later is refused. An end that need
-//!   not be sure of the other makes it at once. One that has closed and wants to be sure waits with it for the other end's END
-//!   ([`EndState::BothClosed`]), closes again after a while without one, and gives up in the end. One that was told waits with it until
-//!   no datagram has come for a while: an END that comes again asks for another answer. tests/round.rs does just this.
-//! - With [`StreamError::TimedOut`]: take and send what is left, then stop. The packets stay stored, so `Done` comes only if the other
+//! - Once the stream has an [error](Stream::error), by a close or by the other end's END, and nothing waits for an acknowledgement or is
+//!   [queued](Stream::queued), the next drive is the last: it returns [`Driven::Done`], and what arrives later is refused. An end that
+//!   need not be sure of the other makes that drive at once. An end that has closed and wants to be sure holds it back until the other
+//!   end's END arrives ([`EndState::BothClosed`]), closes again after a while without one, and eventually gives up. An end that has
+//!   received an END holds it back until no datagram has arrived for a while: a repeated END needs another answer. tests/round.rs does
+//!   exactly this.
+//! - After [`StreamError::TimedOut`]: take and send what is left, then stop. The packets stay stored, so `Done` comes only if the other
 //!   end still acknowledges them.
-//! - What has come in order can be read after the end too, also after `Done`.
+//! - What has arrived in order can still be read after the end, even after `Done`.
 //!
 //! ```
 //! use std::time::Duration;
@@ -103,7 +104,7 @@ pub use header::{Header, HEADER_SIZE};
 pub use refusal::Refusal;
 pub use stream::{Batch, Driven, EndState, Read, Stream, StreamError, Totals, Written, TAKE_ROOM};
 
-// The refusal that the archive answered.
+// The refusal that the archive returned.
 fn refusal(number: u8) -> Refusal {
     Refusal::from_number(number).expect("the linked archive answers refusals 1 to 17")
 }

@@ -1,4 +1,4 @@
-//! The archive's functions and structs, as include/udx.h declares them; `tests` holds the layout to the archive.
+//! The archive's functions and structs, as include/udx.h declares them; `tests` checks the layout against the archive.
 
 #[repr(C)]
 #[derive(Clone, Copy, Debug, PartialEq)]

@@ -2,13 +2,13 @@
 use std::error::Error;
 use std::fmt;
 
-/// Why a call was refused, in the order in which the engine tests. A refused call has changed nothing, except that a
+/// Why a call was refused, in the order in which the engine checks. A refused call has changed nothing, except that a
 /// [read](crate::Stream::read) keeps the bytes it put.
 #[derive(Clone, Copy, Debug, PartialEq, Eq, Hash, PartialOrd, Ord)]
 #[repr(u8)]
 pub enum Refusal {
-    /// A store of another length or a rule of the records broken. A [`Stream`](crate::Stream) never answers it: it owns its records, and
-    /// after calls from a fresh stream no rule is ever broken (proved).
+    /// A store of the wrong length, or a broken rule of the records. A [`Stream`](crate::Stream) never returns it: it owns its records, and
+    /// calls from a fresh stream never break a rule (proved).
     BrokenRecords = 1,
     /// Encode with under 20 bytes, take with under 14,000.
     ShortBuffer = 2,
@@ -16,7 +16,7 @@ pub enum Refusal {
     SegmentCeiling = 3,
     /// A clock of 2^60 nanoseconds or more, or below that of the last accepted call with one.
     BadClock = 4,
-    /// Deliver, drive or close after a drive answered [`Driven::Done`](crate::Driven::Done).
+    /// Deliver, drive or close after a drive returned [`Driven::Done`](crate::Driven::Done).
     AfterDone = 5,
     /// Write, deliver, drive or close while batches of the last drive remain: take them first.
     BatchesLeft = 6,
@@ -28,18 +28,18 @@ pub enum Refusal {
     LongPayload = 9,
     /// A datagram that acknowledges what was never sent.
     AckPastSeq = 10,
-    /// DATA with the number that no packet has.
+    /// DATA numbered 4,294,967,295, which no packet has.
     SeqEnd = 11,
-    /// DATA 32 or more past what was read; the sender's timer sends it again, three times at most.
+    /// DATA 32 or more past what was read; the sender's timer resends it, three times at most.
     PastIncoming = 12,
-    /// No place for another state packet: drive and take first.
+    /// No room for another state packet: drive and take first.
     StateQueueFull = 13,
-    /// This side was closed. This and the next two say only that the stream has that error: a read that answers it may have put bytes, and
-    /// more may be in order.
+    /// This side was closed. This and the next two say only that the stream has that error: the read may have put bytes, and more may be
+    /// left in order.
     ConnectionReset = 14,
     /// The other side was closed.
     UnexpectedEof = 15,
-    /// A packet was sent too often without an answer.
+    /// A packet was sent too often without an acknowledgement.
     TimedOut = 16,
     /// No packet number is left to write with.
     SeqExhausted = 17,

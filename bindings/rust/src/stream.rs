@@ -6,32 +6,32 @@ use std::fmt;
 use std::slice::Chunks;
 use std::time::Duration;
 
-/// Least length of the buffer that a [take](Stream::take) is lent: ten datagrams of 1,400 bytes.
+/// The least length of the buffer for a [take](Stream::take): ten datagrams of 1,400 bytes.
 pub const TAKE_ROOM: usize = 14_000;
 
-/// What a write answers.
+/// What a write returns.
 #[derive(Clone, Copy, Debug, PartialEq, Eq)]
 #[must_use]
 pub enum Written {
-    /// So many bytes from the front were accepted; the others are to be written again later.
+    /// This many bytes from the front were accepted; write the others again later.
     Accepted(usize),
-    /// No room now, in the window or beside 32 packets that are not acknowledged.
+    /// No room now: the window is full, or 32 packets are unacknowledged.
     Wait,
 }
 
-/// What a drive answers.
+/// What a drive returns.
 #[derive(Clone, Copy, Debug, PartialEq, Eq)]
 #[must_use]
 pub enum Driven {
     /// What is to be sent now is ready to be taken; it may be nothing.
     Ready,
-    /// The stream has ended: it has an error, and nothing is queued or stored any more.
+    /// The stream has ended: it has an error, and nothing is queued or stored.
     Done,
 }
 
-/// What a read answers. In each case so many bytes were put at the front of the buffer, and more may be in order: a packet longer than what
-/// remains of the buffer gives its front part and is not finished. So read again while the count is not 0. A read that puts nothing into a
-/// buffer that is not empty has found nothing more.
+/// What a read returns. In each case this many bytes were put at the front of the buffer, and more may be left in order: a packet longer
+/// than what remains of the buffer gives its front part and is not finished. So read again while the count is not 0. A read that puts
+/// nothing into a buffer that is not empty has found nothing more.
 #[derive(Clone, Copy, Debug, PartialEq, Eq)]
 #[must_use]
 pub enum Read {
@@ -44,7 +44,7 @@ pub enum Read {
 }
 
 impl Read {
-    /// Bytes put.
+    /// The bytes put.
     pub fn count(self) -> usize {
         match self {
             Read::Ready(count) | Read::Wait(count) | Read::Ended(count, _) => count,
@@ -60,12 +60,12 @@ pub struct Batch<'a> {
 }
 
 impl<'a> Batch<'a> {
-    /// All its bytes, one datagram behind the other. A batch may be empty.
+    /// All its bytes, one datagram after another. A batch may be empty.
     pub fn bytes(&self) -> &'a [u8] {
         self.bytes
     }
 
-    /// The length of each datagram, or none where the batch is a single one.
+    /// The length of each datagram, or `None` if the batch is a single one.
     pub fn segment(&self) -> Option<usize> {
         self.segment
     }
@@ -83,7 +83,7 @@ pub enum StreamError {
     ConnectionReset,
     /// The other side was closed.
     UnexpectedEof,
-    /// A packet was sent too often without an answer.
+    /// A packet was sent too often without an acknowledgement.
     TimedOut,
 }
 
@@ -107,7 +107,7 @@ pub struct Totals {
     pub inflight_bytes: u64,
 }
 
-/// One end of a stream. It has about 92 KB on the heap and gives them back when dropped.
+/// One end of a stream. It owns about 92 KB on the heap.
 pub struct Stream {
     pub(crate) stream: raw::Stream,
     pub(crate) totals: raw::Totals,
@@ -119,7 +119,7 @@ pub struct Stream {
     pub(crate) headers: Box<[u8]>,
 }
 
-// Nanoseconds; what does not fit is past every clock that the engine accepts.
+// Nanoseconds; a clock that does not fit is past every clock that the engine accepts.
 fn nanos(clock: Duration) -> u64 {
     u64::try_from(clock.as_nanos()).unwrap_or(u64::MAX)
 }
@@ -170,7 +170,7 @@ impl Stream {
         })
     }
 
-    // Stream and totals after a call, and the call's answer.
+    // Keeps stream and totals after a call.
     fn after(&mut self, r: raw::Step) -> Result<raw::Step, Refusal> {
         self.stream = r.stream;
         self.totals = r.totals;
@@ -191,8 +191,8 @@ impl Stream {
     /// # Ok::<(), udx::Refusal>(())
     /// ```
     pub fn write(&mut self, bytes: &[u8]) -> Result<Written, Refusal> {
-        // SAFETY: here and in the other calls every pointer and length is that of a field of self or of a slice lent for the call; what
-        // the archive changes is borrowed mutably, and no two of them overlap.
+        // SAFETY: here and in the other calls every pointer and length is that of a field of self or of a slice borrowed for the call;
+        // what the archive changes is borrowed mutably, and no two of them overlap.
         let r = unsafe {
             raw::udx_write(
                 self.stream,
@@ -218,7 +218,7 @@ impl Stream {
         })
     }
 
-    /// Takes in one datagram. Refusals 4 to 13; a refused datagram may be dropped.
+    /// Handles one incoming datagram. Refusals 4 to 13; a refused datagram may be dropped.
     pub fn deliver(&mut self, datagram: &[u8], clock: Duration) -> Result<(), Refusal> {
         // SAFETY: as in write.
         let r = unsafe {
@@ -242,7 +242,7 @@ impl Stream {
         self.after(r).map(|_| ())
     }
 
-    /// Settles what was acknowledged, looks at the timer, and makes ready what is to be sent now. Refusals 4, 5 and 6.
+    /// Settles what was acknowledged, checks the timer, and makes ready what is to be sent now. Refusals 4, 5 and 6.
     pub fn drive(&mut self, clock: Duration) -> Result<Driven, Refusal> {
         // SAFETY: as in write.
         let r = unsafe {
@@ -265,8 +265,8 @@ impl Stream {
         Ok(if r.outcome == 2 { Driven::Done } else { Driven::Ready })
     }
 
-    /// Takes the next batch of the last drive into `buf`, which has [`TAKE_ROOM`] bytes or more (else refusal 2), or `None` when none is
-    /// left. What `buf` holds past the batch stays.
+    /// Takes the next batch of the last drive into `buf`, which has [`TAKE_ROOM`] bytes or more (else refusal 2); `None` if none is left.
+    /// `buf` is unchanged past the batch.
     ///
     /// ```
     /// # use std::time::Duration;
@@ -312,8 +312,7 @@ impl Stream {
         }))
     }
 
-    /// Queue entries of the last drive that are left to take: 0 where a [take](Stream::take) would answer `None`, which this tells without
-    /// the call.
+    /// Queue entries of the last drive that are left to take. At 0 a [take](Stream::take) would return `None`, so it can be skipped.
     ///
     /// ```
     /// # use std::time::Duration;
@@ -331,7 +330,7 @@ impl Stream {
         self.stream.queue.left as usize
     }
 
-    /// The next datagram to be taken, without taking it. Batches without a datagram may be left where there is none: take until `None`.
+    /// The next datagram to be taken, without taking it. Where there is none, empty batches may still be left: take until `None`.
     ///
     /// ```
     /// # use std::time::Duration;
@@ -368,8 +367,8 @@ impl Stream {
         }
     }
 
-    /// Puts bytes in order at the front of `buf`. A packet that does not fit gives its front part: 5 bytes read 2 at a time answer
-    /// `Wait(2)`, `Wait(2)`, `Ready(1)`. Read again while the count is not 0. What `buf` holds past the count stays.
+    /// Puts bytes, in order, at the front of `buf`. A packet that does not fit gives its front part: 5 bytes read 2 at a time give
+    /// `Wait(2)`, `Wait(2)`, `Ready(1)`. Read again while the count is not 0. `buf` is unchanged past the count.
     ///
     /// ```
     /// # use std::time::Duration;
@@ -407,9 +406,9 @@ impl Stream {
         }
     }
 
-    /// Ends the stream in both directions at once; the next drive has a state packet for the other end. That packet is not sent again if
-    /// the line loses it: another close queues another one. What is not acknowledged yet may be lost (the crate's head, 'The end of a
-    /// stream'). Refusals 5, 6 and 13.
+    /// Ends the stream in both directions at once; the next drive has a state packet for the other end. That packet is not resent if the
+    /// line loses it: another close queues another one. What is not acknowledged yet may be lost (see 'The end of a stream' in the crate's
+    /// documentation). Refusals 5, 6 and 13.
     pub fn close(&mut self) -> Result<(), Refusal> {
         // SAFETY: as in write.
         let r = unsafe {
@@ -466,7 +465,7 @@ impl Stream {
         }
     }
 
-    /// Entries of the send queue: what the next drive leaves to take, or what of the last one is left.
+    /// Entries in the send queue: those for the next drive, or what is left to take of the last one.
     ///
     /// ```
     /// # use std::time::Duration;
@@ -482,7 +481,7 @@ impl Stream {
         (if q.left > 0 { q.left } else { q.count }) as usize
     }
 
-    /// A drive has answered [`Driven::Done`].
+    /// Whether a drive has returned [`Driven::Done`].
     pub fn is_done(&self) -> bool {
         self.stream.ending.ended == 1
     }
@@ -509,7 +508,7 @@ impl Stream {
         self.stream.sender.cwnd
     }
 
-    /// Bytes under way.
+    /// Bytes in flight.
     pub fn inflight(&self) -> u32 {
         self.stream.sender.inflight
     }
@@ -520,7 +519,7 @@ impl Stream {
         (srtt != 0).then(|| Duration::from_nanos(srtt))
     }
 
-    /// The retransmission timeout: how long after a drive that moved the timer is due.
+    /// The retransmission timeout: how long after a drive that settled an acknowledgement the timer is due.
     pub fn rto(&self) -> Duration {
         Duration::from_nanos(self.stream.timing.rto)
     }

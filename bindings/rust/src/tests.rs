@@ -5,7 +5,7 @@ use std::time::Duration;
 
 // layout
 
-// The step that the archive writes has 1, 2, 3 and so on in its fields: where they stand in memory is where this crate has its fields.
+// The step that the archive writes has 1, 2, 3 and so on in its fields: this crate must have its fields at the same places.
 #[test]
 fn a_step_lies_as_the_archive_writes_it() {
     assert_eq!(
@@ -341,11 +341,11 @@ fn open_refuses_other_ceilings_and_clocks() {
     }
 }
 
-// A struct of more than 16 bytes comes back through a pointer that the caller hands in first (System V), so it can be caught as bytes.
+// A struct of more than 16 bytes is returned through a pointer, the call's first argument (System V), so it can be caught as bytes.
 #[test]
 fn the_archive_writes_no_more_than_a_step() {
     let step: unsafe extern "C" fn() -> raw::Step = raw::udx_layout_step;
-    // SAFETY: the same call, as the machine makes it, into room for more than a step.
+    // SAFETY: the same call at machine level, with room for more than a step.
     let step: unsafe extern "C" fn(*mut u8) -> *mut u8 = unsafe { transmute(step) };
     let mut room = [0x5A_u8; 4096];
     unsafe { step(room.as_mut_ptr()) };
@@ -355,7 +355,7 @@ fn the_archive_writes_no_more_than_a_step() {
 
 #[test]
 fn refusals_have_01s_numbers() {
-    // 01's list, written out once more: two names swapped in the crate's own would show nowhere else.
+    // 01's list, written out again: nothing else would notice two names swapped in the crate's own.
     let list = [
         Refusal::BrokenRecords,
         Refusal::ShortBuffer,
@@ -396,7 +396,7 @@ impl Dice {
     }
 }
 
-// Everything that the last drive left goes onto the line, or is lost, or goes twice.
+// Everything that the last drive left is put on the line, lost, or put on it twice.
 fn send(from: &mut Stream, line: &mut Vec<Vec<u8>>, dice: &mut Dice) {
     let mut buf = vec![0; TAKE_ROOM];
     loop {

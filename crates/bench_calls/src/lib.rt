@@ -1,4 +1,4 @@
-// What bench/ times, as C functions on plain numbers. The order of `numbers` is that of `stream` and `totals` below.
+// The calls that bench/ times, as C functions on plain numbers. `numbers` has the order of `stream` and `totals` below.
 use error::Outcome;
 use error::UdxError;
 use records::Clocks;
@@ -97,7 +97,7 @@ pub fn totals(n: &[u64; 24]) -> Totals {
     }
 }
 
-// Refusal 1 on the whole records: 1 where they are kept.
+// Refusal 1 on the whole records: returns 1 if they keep the rules.
 #[no_mangle]
 pub extern "C" fn udx_bench_rules(
     numbers: &[u64; 24],
@@ -111,7 +111,7 @@ pub extern "C" fn udx_bench_rules(
     0
 }
 
-// One write: the bytes accepted.
+// One write: returns the bytes accepted.
 #[no_mangle]
 pub extern "C" fn udx_bench_write(
     numbers: &[u64; 24],
@@ -129,7 +129,7 @@ pub extern "C" fn udx_bench_write(
     r.count
 }
 
-// One take: the bytes put.
+// One take: returns the bytes put.
 #[no_mangle]
 pub extern "C" fn udx_bench_take(
     numbers: &[u64; 24],
@@ -147,7 +147,7 @@ pub extern "C" fn udx_bench_take(
     r.count
 }
 
-// One delivery: 1 where it is accepted.
+// One delivery: returns 1 if it is accepted.
 #[no_mangle]
 pub extern "C" fn udx_bench_deliver(
     numbers: &[u64; 24],
@@ -184,7 +184,7 @@ pub extern "C" fn udx_bench_deliver(
     }
 }
 
-// One read: the bytes put.
+// One read: returns the bytes put.
 #[no_mangle]
 pub extern "C" fn udx_bench_read(
     numbers: &[u64; 24],
@@ -202,7 +202,7 @@ pub extern "C" fn udx_bench_read(
     r.count
 }
 
-// One drive: the entries that it left to take and the numbers settled.
+// One drive: returns the entries left to take plus remote acked.
 #[no_mangle]
 pub extern "C" fn udx_bench_drive(
     numbers: &[u64; 24],

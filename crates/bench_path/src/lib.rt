@@ -1,6 +1,5 @@
-// The path of a packet, for timing, as C functions: packets are written, driven, taken, delivered, read, acked and settled between two ends.
-// Each function makes all the calls of its kind in a round, so that little but the calls is timed. The order of `numbers` is that of
-// bench_calls.
+// The path of a packet between two ends, as C functions to be timed: write, drive, take, deliver and read. Each function makes all the
+// calls of its kind in a round, so that little but the calls is timed. `numbers` has the order of bench_calls.
 use bench_calls::stream;
 use bench_calls::totals;
 use records::Queue;
@@ -17,14 +16,14 @@ fn unpacked(numbers: &[u64; 24]) -> Step {
     nothing(stream, totals)
 }
 
-// The step before, where there is no call to make.
+// The previous step, when there is no call to make.
 fn unchanged(r: Step) -> Step {
     let s = r.stream;
     let t = r.totals;
     nothing(s, t)
 }
 
-// The packet of this size at this place is written, if there is a whole one.
+// Writes the packet of `size` bytes at `at`, if it is whole.
 fn write_one(
     r: Step,
     sent: &mut [u64; 64],
@@ -50,7 +49,7 @@ fn write_one(
     udx::write::write(s, t, sent, held, queue, outgoing, incoming, headers, one)
 }
 
-// Writes of one packet each, until one is not accepted.
+// Writes one packet at a time, until one is not accepted.
 fn write(
     r: Step,
     sent: &mut [u64; 64],
@@ -105,7 +104,7 @@ fn drive(
     udx::drive::drive(s, t, sent, held, queue, outgoing, incoming, headers, c)
 }
 
-// The next batch is put at this place of the buffer.
+// Takes the next batch into the buffer at `at`.
 fn take_one(
     r: Step,
     sent: &mut [u64; 64],
@@ -133,7 +132,7 @@ fn all_taken(r: Step) -> bool {
     q.left == 0
 }
 
-// Batches one behind the other, until no entry is left: a queue of 128 entries has 13 batches of ten.
+// Takes batches until no entry is left: a queue of 128 entries has 13 batches of ten.
 fn take(
     r: Step,
     sent: &mut [u64; 64],
@@ -170,7 +169,7 @@ fn take(
     w
 }
 
-// The datagram of this size at this place is delivered, if there is a whole one and it is not lost.
+// Delivers the datagram of `size` bytes at `at`, if it is whole and not lost.
 fn deliver_one(
     r: Step,
     sent: &mut [u64; 64],
@@ -202,7 +201,7 @@ fn deliver_one(
     udx::deliver::deliver(s, t, sent, held, queue, outgoing, incoming, headers, one, c)
 }
 
-// The datagrams that are not lost are delivered: `lost` has a byte for each, 0 where it arrives, and 128 at most.
+// Delivers the datagrams that are not lost, of 128 at most: `lost` has a byte for each, 0 if it arrives.
 fn deliver(
     r: Step,
     sent: &mut [u64; 64],
@@ -244,7 +243,7 @@ fn deliver(
     w
 }
 
-// One read of at most this size, put at this place of the buffer.
+// Reads `size` bytes at most into the buffer at `at`.
 fn read_one(
     r: Step,
     sent: &[u64; 64],
@@ -270,7 +269,7 @@ fn read_one(
     udx::read::read(s, t, sent, held, queue, outgoing, incoming, headers, part)
 }
 
-// Reads of one packet each, until one puts nothing.
+// Reads one packet at a time, until a read puts nothing.
 fn read(
     r: Step,
     sent: &[u64; 64],
@@ -364,7 +363,7 @@ fn keep(n: &mut [u64; 24], r: Step) {
     keep_timing(n, s.timing);
 }
 
-// 1 where the stream has an error.
+// 1 if the stream has an error.
 fn failed(r: Step) -> u32 {
     let s = r.stream;
     let ending = s.ending;
@@ -375,7 +374,7 @@ fn failed(r: Step) -> u32 {
     0
 }
 
-// The bytes accepted.
+// Returns the bytes accepted.
 #[no_mangle]
 pub extern "C" fn udx_path_write(
     numbers: &mut [u64; 24],
@@ -403,7 +402,7 @@ pub extern "C" fn udx_path_write(
     r.count
 }
 
-// 1 where the stream has an error after it, which `numbers` have no place for.
+// Returns 1 if the stream then has an error, which `numbers` has no place for.
 #[no_mangle]
 pub extern "C" fn udx_path_drive(
     numbers: &mut [u64; 24],
@@ -429,7 +428,7 @@ pub extern "C" fn udx_path_drive(
     failed(r)
 }
 
-// The bytes put.
+// Returns the bytes put.
 #[no_mangle]
 pub extern "C" fn udx_path_take(
     numbers: &mut [u64; 24],
@@ -485,7 +484,7 @@ pub extern "C" fn udx_path_deliver(
     keep(numbers, r);
 }
 
-// The bytes put.
+// Returns the bytes put.
 #[no_mangle]
 pub extern "C" fn udx_path_read(
     numbers: &mut [u64; 24],

@@ -1,6 +1,6 @@
--- A state packet on the records is the model's. Its bytes at the next place and its word at the end of the queue are one more entry of
--- what is seen (`state-queued`, from the laws of a pushed entry); over a whole stream that is `sendStatePacket` (`state-seen`), and with
--- the ending replaced first `terminate` (`terminate-seen`).
+-- Queuing a state packet on the records is the model's. Its bytes at the next place and its word at the end of the queue are one more entry
+-- of what is seen (`state-queued`, from the laws of a pushed entry); over a whole stream that is `sendStatePacket` (`state-seen`), and with
+-- the ending replaced first it is `terminate` (`terminate-seen`).
 use Prim.Native.Nat.{ℕ, _+_, _*_, _<_, _≤_}
 use native.Mathlib.Omega.{arith}
 use mathlib.Core.Path.{_≡_, refl, ap, sym, _∙_}
@@ -91,7 +91,7 @@ state-seen s t l x e remote seq ack f =
     let bytes = header-same (sym e) (sym remote) (sym seq) (sym ack) ∙ sym (append-nil h) in
     groups (seen s t l) (x .seen-queue f ∙ ap (λ (b : Bytes). pushed (model.state b) (seenQueue (s .queue) (l .queue) (l .headers))) bytes) (x .seen-totals)
 
--- the ending replaced first
+-- with the ending replaced first
 pub terminate-seen : (s : Stream) (t : Totals) (l : Lent) (x : Ending) (why : UdxError) {error : UdxError} {remote seq ack : ℕ} {r : Queued} {queue′ : List ℕ} {headers′ : Bytes}
     → seenEnding x ≡ failed why (seenEnding (s .ending))
     → StateQueued (s .queue) t error remote seq ack (l .queue) (l .headers) r queue′ headers′ → x .error ≡ error → s .ids .remote ≡ remote → s .sender .seq ≡ seq → s .receiver .ack ≡ ack

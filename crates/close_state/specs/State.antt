@@ -1,5 +1,4 @@
--- How a stream ends, and a state packet on the records: its header, its queue entry, the numbers after it, and what is seen of the queue
--- then.
+-- How a stream ends, and a queued state packet on the records: its header, its queue entry, the numbers after it, and the queue then seen.
 use Prim.Native.Nat.{ℕ, _+_, _%_, _^_, _<_}
 use mathlib.Core.Path.{_≡_}
 use mathlib.Core.List.{List}
@@ -28,7 +27,7 @@ seenEnding x = record { error = x .error; state = seenState (x .state); ended = 
 abbrev pub stateHeader : UdxError → (remote seq ack : ℕ) → Header
 stateHeader error remote seq ack = headerOf (stateType (isSet error)) remote seq ack
 
--- a state packet is its header; its place in the header store is not in the entry, but counted
+-- a state packet is a bare header; its place in the header store is not in the entry but counted
 abbrev pub stateEntry : Entry
 stateEntry = record { number = 0; length = 20; state = true }
 
@@ -47,21 +46,21 @@ countedState t =
       «inflight_bytes» = t .«inflight_bytes»;
     }
 
--- what a state packet needs: nothing is left to take, and the queue and the header store have a place
+-- what a state packet needs: nothing is left to take, and the queue and the header store have room for it
 pub record Pushable (q : Queue) (store : ℕ) : Type 0 where
   pub whole : store ≡ 1_280
   pub rest : q .left ≡ 0
   pub queued : q .count < 128
   pub places : q .states < 64
 
--- send_state_packet, on the numbers and on what is seen of the queue, as long as that is laid out as it should be
+-- send_state_packet, on the numbers and on what is seen of the queue, if that is properly laid out
 pub record StateQueued (q : Queue) (t : Totals) (error : UdxError) (remote seq ack : ℕ) (queue : List ℕ) (headers : Bytes) (r : Queued) (queue′ : List ℕ) (headers′ : Bytes) : Type 0 where
   pub places : r .queue ≡ pushedState q
   pub totals : r .totals ≡ countedState t
   pub seen-totals : seenTotals (r .totals) ≡ countState (seenTotals t)
   pub seen-queue : formedQueue q queue ≡ true
       → seenQueue (r .queue) queue′ headers′ ≡ pushed (model.state (headerBytes (stateHeader error remote seq ack))) (seenQueue q queue headers)
-  -- the queue stays as it is laid out
+  -- the queue stays properly laid out
   pub formed : formedQueue q queue ≡ true → formedQueue (r .queue) queue′ ≡ true
   pub queue-long : length queue′ ≡ 128
   pub headers-long : length headers′ ≡ 1_280
@@ -79,7 +78,7 @@ withEnding x s =
       clocks = s .clocks;
     }
 
--- the lent words and bytes that a state packet changes
+-- the lent words and bytes, with those that a state packet changes replaced
 abbrev pub withState : (queue : List ℕ) → (headers : Bytes) → Lent → Lent
 withState queue headers l =
     record { sent = l .sent; held = l .held; queue = queue; outgoing = l .outgoing; incoming = l .incoming; headers = headers }

@@ -1,5 +1,5 @@
--- One acknowledged number: where its packet is stored the cleared word is the model's store without it and the numbers are the model's;
--- where it is not, nothing changes in either.
+-- Acking one number. If its packet is stored, clearing its word removes it from the store that is seen, and the numbers are the model's;
+-- if not, nothing changes on either side.
 use Prim.Native.Nat.{ℕ, _+_, _-_, _%_, _^_, _≤_, _<_}
 use mathlib.Core.Path.{_≡_, refl, ap, ap₂, sym, _∙_}
 use mathlib.Core.List.{List}
@@ -26,12 +26,12 @@ use Rattle.records.proofs.SeenOutgoing.{get-outgoing, drop-outgoing}
 use Rattle.deliver_acks.specs.declared.Acks.{Acks}
 use Rattle.deliver_acks.specs.Acked.{leftSender, measuredRtt, ackedTotals, InWindow, Measures, withAcks, SameNumbers, AcksOne}
 
--- three groups of an end
+-- ends with equal senders, timings and totals are equal
 groups : (e : model.End) {a a′ : model.Sender} {b b′ : model.Timing} {c c′ : model.Totals} → a ≡ a′ → b ≡ b′ → c ≡ c′
     → model.withTotals c (model.withTiming b (model.withSender a e)) ≡ model.withTotals c′ (model.withTiming b′ (model.withSender a′ e))
 groups e p q r = cc
 
--- what an acknowledged packet leaves
+-- the numbers after packet p is acked
 abbrev pub ackedBy : ℕ → Sent → Acks → Acks
 ackedBy clock p a = record { sender = leftSender (a .sender) p; rtt = measuredRtt (a .rtt) p clock; totals = ackedTotals (a .totals) p }
 
@@ -58,7 +58,7 @@ module _ (clock n : ℕ) (a : Acks) (sent : List ℕ) (long : length sent ≡ 64
   abbrev slot : Sent
   slot = sentIn sent (n % ceiling)
 
-  -- where it is stored
+  -- it is stored
   module _ (stored : isStored slot n ≡ true) (s : Stream) (l : Lent) where
     abbrev before : model.End
     before = seen (withAcks a s) (a .totals) (withWords sent l)
@@ -94,7 +94,7 @@ module _ (clock n : ℕ) (a : Acks) (sent : List ℕ) (long : length sent ≡ 64
         groups before sender-seen (timing-seen (l .outgoing) (n % ceiling) clock slot (record { rtt = a .rtt; deadline = s .timing .deadline .0 .0 })) totals-seen
         ∙ ap (λ (o : Option model.Packet). on o before (λ (p : model.Packet). handleRemoteAck clock n p before)) (sym got)
 
-  -- where it is not
+  -- it is not stored
   pub absent-seen : isStored slot n ≡ false → (s : Stream) (l : Lent)
       → seen (withAcks a s) (a .totals) (withWords sent l) ≡ ackNumber clock n (seen (withAcks a s) (a .totals) (withWords sent l))
   unfolding seen ackNumber
@@ -104,7 +104,7 @@ module _ (clock n : ℕ) (a : Acks) (sent : List ℕ) (long : length sent ≡ 64
       get-outgoing (a .sender .«remote_acked») (a .sender .seq) sent (l .outgoing) n (w .low) (w .high) ∙ rw absent refl in
       ap (λ (o : Option model.Packet). on o e (λ (p : model.Packet). handleRemoteAck clock n p e)) (sym got)
 
-  -- the code's two ways
+  -- the two branches of the code
   pub acks-stored : {p : Sent} {e : Rtt} {sent′ : List ℕ} → p ≡ slot → isStored p n ≡ true → Measures (a .rtt) p clock e → sent′ ≡ set sent (n % 32) 0
       → AcksOne clock n a sent (record { sender = leftSender (a .sender) p; rtt = e; totals = ackedTotals (a .totals) p }) sent′
   acks-stored {p} is stored m words =

@@ -1,5 +1,5 @@
--- The loops over numbers and over blocks: what the model still does from here on gives what it does from the start. A block is the run
--- over its numbers of the window (Clipped).
+-- The loops over numbers and over blocks. Invariant: running the model on what is left gives the model's whole run. A block is the run
+-- over those of its numbers that are in the window (Clipped).
 use Prim.Native.Nat.{ℕ, suc, _+_, _-_, _≤_, _<_, max, min}
 use native.Mathlib.Omega.{arith}
 use mathlib.Core.Path.{_≡_, refl, ap, sym, _∙_}

@@ -1,5 +1,5 @@
--- A run over the numbers of a block is the run over those of the window: no other number is stored, and acknowledging what is not
--- stored changes nothing. A run splits where one likes.
+-- The run over all numbers of a block is the run over those in the window: no other number is stored, and acking a number that is not
+-- stored changes nothing. A run can be split anywhere.
 use Prim.Native.Nat.{ℕ, zero, suc, _+_, _-_, _≤_, _<_, max, min}
 use native.Mathlib.Decide.{decLe}
 use native.Mathlib.Omega.{arith}
@@ -33,10 +33,10 @@ run-none clock (suc k) n e free =
     ap (λ o. ackNumbers clock k (suc n) (on o e (λ p. handleRemoteAck clock n p e))) (free n (omega arith) (omega arith))
     ∙ run-none clock k (suc n) e (λ m a b. free m (omega arith) (omega arith))
 
--- nothing is stored outside of a window
+-- nothing is stored outside the window
 module _ (clock low high : ℕ) (e : End) (below : (m : ℕ) → m < low → get (e .sender .outgoing) m ≡ none) (above : (m : ℕ) → high ≤ m → get (e .sender .outgoing) m ≡ none)
     (slots : length (e .sender .outgoing) ≡ ceiling) where
-  -- some of the run lies in the window: what is before it, the part in it, what is after it
+  -- part of the run is in the window: the numbers before it, in it and after it
   crossing : (start before inside after : ℕ) → start + before ≡ max start low → (0 < after → high ≤ start + before + inside)
       → ackNumbers clock (before + (inside + after)) start e ≡ ackNumbers clock inside (start + before) e
   crossing start before inside after lo hi =

@@ -1,4 +1,4 @@
--- One acknowledged packet on the records: the numbers after it, and that what is seen is the model's.
+-- Acking one packet on the records: the numbers afterwards, and that what is seen agrees with the model.
 use Prim.Native.Nat.{ℕ, _+_, _-_, _^_, _≤_, _<_}
 use mathlib.Core.Path.{_≡_}
 use mathlib.Core.List.{List}
@@ -47,7 +47,7 @@ ackedTotals t p =
       «inflight_bytes» = t .«inflight_bytes» - (p .length - 20);
     }
 
--- what 01's rules and refusal 4 give: an estimate in its ranges and a clock below 2^60
+-- guaranteed by 01's rules and refusal 4: an estimate in range and a clock below 2^60
 pub record Timed (a : Acks) (clock : ℕ) : Type 0 where
   pub range : InRange (a .rtt)
   pub early : clock < 2 ^ 60
@@ -58,7 +58,7 @@ pub record InWindow (s : Sender) (n : ℕ) : Type 0 where
   pub high : n < s .seq
   pub width : s .seq ≤ s .«remote_acked» + 32
 
--- a stream with the numbers that acknowledged packets left
+-- the stream with the sender and estimate left by acking
 abbrev pub withAcks : Acks → Stream → Stream
 withAcks a s =
     record {
@@ -71,7 +71,7 @@ withAcks a s =
       clocks = s .clocks;
     }
 
--- the numbers that no acknowledged packet changes
+-- the sender's numbers that acking never changes
 pub record SameNumbers (s r : Sender) : Type 0 where
   pub seq : r .seq ≡ s .seq
   pub acked : r .«remote_acked» ≡ s .«remote_acked»

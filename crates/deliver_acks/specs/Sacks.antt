@@ -1,5 +1,5 @@
--- Runs of acknowledged numbers on the records: a run of the window, a SACK block, and all blocks of a payload, as the model's runs over
--- every number of them.
+-- Acking runs of numbers on the records: a run in the window, a SACK block, and all blocks of a payload. Each agrees with the model,
+-- which visits every number.
 use Prim.Native.Nat.{ℕ, _+_, _-_, _≤_, _<_}
 use mathlib.Core.Path.{_≡_}
 use mathlib.Core.List.{List}
@@ -20,7 +20,7 @@ pub record RunInWindow (s : Sender) (from to : ℕ) : Type 0 where
   pub high : to ≤ s .seq
   pub width : s .seq ≤ s .«remote_acked» + 32
 
--- the numbers from `from` to below `to`
+-- acking the numbers from `from` to below `to`
 pub record AcksRun (clock from to : ℕ) (a : Acks) (sent : List ℕ) (r : Acks) (sent′ : List ℕ) : Type 0 where
   pub seen-after : (s : Stream) (l : Lent)
       → seen (withAcks r s) (r .totals) (withWords sent′ l) ≡ ackNumbers clock (to - from) from (seen (withAcks a s) (a .totals) (withWords sent l))

@@ -15,7 +15,7 @@ use records::Totals;
 use rtt::Nanos;
 use rtt::Rtt;
 
-// What an acknowledged packet changes besides the words.
+// What acking a packet changes, besides the lent words.
 pub struct Acks {
     pub sender: Sender,
     pub rtt: Rtt,
@@ -65,7 +65,7 @@ fn acked_totals(t: Totals, p: Sent) -> Totals
     }
 }
 
-// Packet n leaves, where it is stored (handle_remote_ack_for_packet).
+// Removes packet n if it is stored (handle_remote_ack_for_packet).
 pub fn handle_remote_ack(a: Acks, clock: Nanos, sent: &mut [u64; 64], n: u32) -> Acks
     requires { ⌜ Timed a (clock .0) × InWindow (a .sender) n ⌝ }
     ensures { λ r. ⌜ AcksOne (clock .0) n a (now (sent .entry)) r (now (sent .exit)) ⌝ }
@@ -86,7 +86,7 @@ pub fn handle_remote_ack(a: Acks, clock: Nanos, sent: &mut [u64; 64], n: u32) ->
     a
 }
 
-// The numbers from `from` to below `to`, ascending.
+// Acks the numbers from `from` to below `to`, ascending.
 fn ack_numbers(a: Acks, clock: Nanos, sent: &mut [u64; 64], from: u32, to: u32) -> Acks
     requires { ⌜ Timed a (clock .0) × RunInWindow (a .sender) from to ⌝ }
     ensures { λ r. ⌜ AcksRun (clock .0) from to a (now (sent .entry)) r (now (sent .exit)) ⌝ }
@@ -100,8 +100,8 @@ fn ack_numbers(a: Acks, clock: Nanos, sent: &mut [u64; 64], from: u32, to: u32) 
     b
 }
 
-// The numbers of a block, end excluded. No number outside of remote_acked to below seq is stored, so a block costs 32 turns at most,
-// however many numbers it has.
+// Acks the numbers of a block, end excluded. Only numbers from remote_acked to below seq can be stored, so a block takes at most 32
+// turns, however long it is.
 fn ack_block(a: Acks, clock: Nanos, sent: &mut [u64; 64], start: u32, end: u32) -> Acks
     requires { ⌜ Timed a (clock .0) × (a .sender .seq ≤ a .sender .«remote_acked» + 32) ⌝ }
     ensures { λ r. ⌜ AcksRun (clock .0) start end a (now (sent .entry)) r (now (sent .exit)) ⌝ }
@@ -111,7 +111,7 @@ fn ack_block(a: Acks, clock: Nanos, sent: &mut [u64; 64], start: u32, end: u32) 
     ack_numbers(a, clock, sent, from, to)
 }
 
-// Every block of a payload.
+// Acks every block of a payload.
 pub fn handle_incoming_sacks(a: Acks, clock: Nanos, sent: &mut [u64; 64], payload: &[u8]) -> Acks
     requires { ⌜ Timed a (clock .0) × (a .sender .seq ≤ a .sender .«remote_acked» + 32) ⌝ }
     ensures { λ r. ⌜ AcksBlocks (clock .0) (now (payload .entry)) a (now (sent .entry)) r (now (sent .exit)) ⌝ }

@@ -1,4 +1,4 @@
--- The parts of a delivery one after another, and the largest ack and the window at the end, are `handleIncoming`.
+-- The parts of a delivery in sequence, then the largest ack and the window, are the model's `handleIncoming`.
 use Prim.Native.Nat.{ℕ, _+_, _≤_, _<_}
 use native.Mathlib.Omega.{arith}
 use mathlib.Core.Path.{_≡_, refl, ap, sym, subst, _∙_}
@@ -25,7 +25,7 @@ use Rattle.deliver_notes.specs.Numbers.{countedReceived, clockedStream, ackedSe
 use Rattle.deliver_parts.specs.Steps.{withSender, Measured, Sacked, Pushed, Ended, TakesData, withData, TookData}
 use Rattle.deliver_all.specs.Handle.{withBegun, begun, Began, CanDeliver, withDelivered, Handled}
 
--- a state packet more can follow
+-- there is room for one more state packet
 pub pushed-able : {q : Queue} {queue : List ℕ} {q′ : Queue} {queue′ : List ℕ} {headers′ : Bytes} → Pushed q queue q′ queue′ headers′ → q .left ≡ 0 → q .count ≤ 126 → q .states ≤ 62
     → Pushable q′ (length headers′)
 pushed-able p rest queued places =
@@ -33,7 +33,7 @@ pushed-able p rest queued places =
     let states = p .states in
     record { whole = p .whole; rest = p .left ∙ rest; queued = omega arith; places = omega arith }
 
--- what comes before DATA
+-- everything before DATA
 
 module _ (s : Stream) (t : Totals) (clock : ℕ) {h : Header} {payload : Bytes} {sent : List ℕ} {a : Delivered} {sent′ : List ℕ}
     (x : Sacked (clockedStream s clock) (countedReceived t) clock h payload sent a sent′) where
@@ -52,7 +52,7 @@ module _ (s : Stream) (t : Totals) (clock : ℕ) {h : Header} {payload : Bytes} 
         pushed = subst (λ (q : Queue). Pushed q queue (r .stream .queue) queue′ headers′) queue-same (y .pushed);
       }
 
--- DATA, and the end of it
+-- DATA and what follows it
 
 module _ {s : Stream} {t : Totals} {clock : ℕ} {h : Header} {payload : Bytes} {sent queue : List ℕ} {incoming headers : Bytes}
     (d : CanDeliver s clock h queue incoming headers payload) {b : Delivered} {sent′ queue′ : List ℕ} {headers′ : Bytes}

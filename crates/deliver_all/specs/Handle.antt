@@ -1,4 +1,4 @@
--- A whole delivery on the records: what may be assumed of it, and that what is seen is the model's.
+-- A whole delivery on the records: its precondition, and that what is seen agrees with the model.
 use Prim.Native.Nat.{ℕ, _≤_, _<_, _^_, _+_}
 use mathlib.Core.Path.{_≡_}
 use mathlib.Core.List.{List}
@@ -17,7 +17,7 @@ use Rattle.records.specs.Laid.{LaidReceiver}
 use Rattle.deliver_parts.specs.declared.Delivered.{Delivered}
 use Rattle.deliver_parts.specs.Steps.{Measured, Pushed, TakesData}
 
--- what comes before DATA
+-- everything before DATA
 
 abbrev pub withBegun : (sent queue : List ℕ) → (headers : Bytes) → Lent → Lent
 withBegun sent queue headers l =
@@ -34,7 +34,7 @@ pub record Began (s : Stream) (t : Totals) (clock : ℕ) (h : Header) (payload :
   pub receiver : r .stream .receiver ≡ s .receiver
   pub pushed : Pushed (s .queue) queue (r .stream .queue) queue′ headers′
 
--- what 01's rules and the refusals of a delivery give; two state packets may follow
+-- guaranteed by 01's rules and the refusals of a delivery; there is room for two more state packets
 pub record CanDeliver (s : Stream) (clock : ℕ) (h : Header) (queue : List ℕ) (incoming headers payload : Bytes) : Type 0 where
   pub measured : Measured s clock
   pub whole : length headers ≡ 1_280
@@ -56,5 +56,5 @@ pub record Handled (s : Stream) (t : Totals) (clock : ℕ) (h : Header) (payload
       ≡ handleIncoming clock h payload (seen s t (withDelivered sent held queue incoming headers l))
   pub formed : formedQueue (r .stream .queue) queue′ ≡ true
   pub laid : LaidReceiver (s .receiver) → LaidReceiver (r .stream .receiver)
-  -- what the slots hold past their packets stays
+  -- the bytes of each slot past its packet are unchanged
   pub beside : Stay incomingSlot (heldSize held′) incoming incoming′

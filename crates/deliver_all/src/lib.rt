@@ -15,7 +15,7 @@ use records::Stream;
 use records::Totals;
 use rtt::Nanos;
 
-// What comes before DATA.
+// Everything before DATA.
 fn before_data(
     s: Stream,
     t: Totals,
@@ -38,7 +38,6 @@ fn before_data(
     on_end(after, totals, h, queue, headers)
 }
 
-// handle_incoming.
 pub fn handle_incoming(
     s: Stream,
     t: Totals,

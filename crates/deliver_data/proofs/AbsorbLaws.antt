@@ -1,6 +1,6 @@
--- DATA on the records against the model: the loop that clears a gap, the packet that is held and the loop that moves ack. A gap's words
--- are no packets, so top may pass them; ack stops at the first number that is not held, at top at the latest, so that the model's
--- steps are enough.
+-- DATA on the records agrees with the model: the loop that clears a gap, the packet that is held, and the loop that moves ack. Cleared
+-- words are not packets, so top may pass them; ack stops at the first number not held, at top at the latest, so the model's steps are
+-- enough.
 use Prim.Native.Nat.{ℕ, zero, suc, _+_, _-_, _*_, _%_, _≤_, _<_, max}
 use native.Mathlib.Numerals.{add-one}
 use native.Mathlib.Omega.{arith}
@@ -30,7 +30,7 @@ use Rattle.records.proofs.SeenIncoming.{heldIn, withHeld, get-incoming, get-pas
 use Rattle.records.specs.Laid.{LaidReceiver}
 use Rattle.deliver_data.specs.Absorbing.{Accepted, Cleared, Inserted, Advanced, Absorbed}
 
--- a gap is cleared
+-- clearing a gap
 
 -- the words of the numbers from top to below m are cleared
 pub record Clearing (words₀ : List ℕ) (top m : ℕ) (words : List ℕ) : Type 0 where
@@ -58,9 +58,9 @@ module _ {words₀ : List ℕ} {top m : ℕ} {words : List ℕ} (g : Clearing wo
       let e : max top n ≡ m = omega arith in
       record { seen = λ readCursor store h. rw e (g .seen readCursor store (omega arith)) }
 
--- a packet is held
+-- holding a packet
 
--- the packet of a payload that has just come
+-- the packet of a payload just delivered
 abbrev arrived : ℕ → Bytes → Held
 arrived n payload = record { number = n; past = length payload + 1; offset = 0 }
 
@@ -72,7 +72,7 @@ module _ {r : Receiver} {words cleared : List ℕ} {store : Bytes} {n : ℕ} {pa
   back : heldOf (heldWord (arrived n payload)) ≡ arrived n payload
   back = held-back (arrived n payload) (omega (arith, a .short)) (omega arith) (omega (arith, a .below))
 
-  -- what was seen before the gap was cleared
+  -- clearing the gap does not change what is seen
   same : (top : ℕ) → max (r .top) n ≡ top → seenIncoming (r .«read_cursor») top cleared store ≡ seenIncoming (r .«read_cursor») (r .top) words store
   same top e =
       let w : max (r .top) n ≤ r .«read_cursor» + ceiling = omega (arith, a .laid .width, a .near) in
@@ -95,7 +95,7 @@ module _ {r : Receiver} {words cleared : List ℕ} {store : Bytes} {n : ℕ} {pa
       (hold-next (r .«read_cursor») cleared long n (arrived n payload) refl (λ z. omega arith) back low store payload (a .store) (a .short)
       (add-one (length payload)))
 
-  -- past the payload its slot is as it was, and every other slot is
+  -- its slot is unchanged past the payload, and so is every other slot
   stays : Stay incomingSlot (heldSize (set cleared (n % 32) (heldWord (arrived n payload)))) store (put store (n % 32 * 1_380) payload)
   stays i l = rw (← in-is) (at-slot (ℕ-discrete i (n % ceiling)))
     where
@@ -133,7 +133,7 @@ module _ {r : Receiver} {words cleared : List ℕ} {store : Bytes} {n : ℕ} {pa
         beside = rw (e, f) stays;
       }
 
--- ack moves
+-- moving ack
 
 module _ (r : model.Receiver) where
   advance-stops : (k : ℕ) → get (r .incoming) (r .ack) ≡ none → advance k r ≡ r
@@ -145,7 +145,7 @@ module _ (r : model.Receiver) where
   unfolding advance
   advance-goes k e = rw e refl
 
--- the model's steps
+-- how many steps the model takes
 abbrev steps : Receiver → ℕ
 steps r = (r .«read_cursor» + ceiling) - r .ack
 
@@ -160,7 +160,7 @@ pub record Advancing (r : Receiver) (words : List ℕ) (s : Receiver) : Type 0 w
 pub advance-starts : (r : Receiver) (words : List ℕ) → LaidReceiver r → r .«read_cursor» ≤ r .ack → Advancing r words r
 advance-starts r words l u = record { laid = l; unread = u; cursor = refl; top = refl; seen = λ store. refl }
 
--- ack is one more
+-- ack plus one
 abbrev oneMore : Receiver → Receiver
 oneMore s = record { ack = s .ack + 1; «read_cursor» = s .«read_cursor»; top = s .top }
 

@@ -1,5 +1,5 @@
--- What DATA does to the receiving group: what may be assumed of it, and what a gap that is cleared, a packet that is held and an ack
--- that moves are to the model's receiver. Where a function is not lent the store, it holds for every store.
+-- What DATA does to the receiver: the precondition, and what clearing a gap, holding a packet and moving ack mean for the model's
+-- receiver. Where a function is not lent the store, its contract holds for every store.
 use Prim.Native.Nat.{ℕ, _+_, _-_, _≤_, _<_, max}
 use mathlib.Core.Path.{_≡_}
 use mathlib.Core.List.{List}
@@ -24,7 +24,7 @@ pub record Accepted (r : Receiver) (incoming : Bytes) (n : ℕ) (payload : Bytes
   pub below : n < 4_294_967_295
   pub near : n < r .«read_cursor» + ceiling
 
--- the words after a gap was cleared: with n for a lower top the same packets are held
+-- the words after a gap is cleared: raising a lower top to n leaves the same packets held
 pub record Cleared (held : List ℕ) (top n : ℕ) (held′ : List ℕ) : Type 0 where
   pub seen : (readCursor : ℕ) (store : Bytes) → max top n ≤ readCursor + ceiling
       → seenIncoming readCursor (max top n) held′ store ≡ seenIncoming readCursor top held store
@@ -51,5 +51,5 @@ pub record Absorbed (r : Receiver) (held : List ℕ) (incoming : Bytes) (n : ℕ
   pub seen : seenReceiver r′ held′ incoming′ ≡ model.absorb n payload (seenReceiver r held incoming)
   pub cursor : r′ .«read_cursor» ≡ r .«read_cursor»
   pub laid : LaidReceiver r′
-  -- what the slots hold past their packets stays
+  -- the bytes of each slot past its packet are unchanged
   pub beside : Stay incomingSlot (heldSize held′) incoming incoming′

@@ -1,5 +1,5 @@
-// DATA of a datagram: held under its number until it is read, and ack moved past all that is held in order. The receiver's numbers go by
-// value; the held packets are words of a lent array, and their bytes are in the lent incoming store.
+// A datagram's DATA: it is held under its number until it is read, and ack moves past all that is held in order. The receiver's numbers
+// are passed by value; the held packets are words of a lent array, their bytes are in the lent incoming store.
 ghost use mathlib.Core.Path.{_≡_};
 ghost use Prim.Native.Nat.{_+_, _≤_, _<_, max};
 ghost use Rattle.records.specs.Laid.{LaidReceiver};
@@ -8,7 +8,7 @@ use records::Held;
 use records::Receiver;
 use records::word_count;
 
-// Clears the words of the numbers from top to below n. Once top is past them a word that was left there would be a packet.
+// Clears the words of the numbers from top to below n: once top is past them, a stale word would count as a packet.
 fn clear_gap(held: &mut [u64; 32], top: u32, n: u32)
     ensures { λ _. ⌜ Cleared (now (held .entry)) top n (now (held .exit)) ⌝ }
 {
@@ -20,7 +20,7 @@ fn clear_gap(held: &mut [u64; 32], top: u32, n: u32)
     }
 }
 
-// The end of the held numbers, with n among them.
+// The top that also covers n.
 fn top_with(top: u32, n: u32) -> u32
     requires { ⌜ n < 4_294_967_295 ⌝ }
     ensures { λ r. ⌜ r ≡ max top (n + 1) ⌝ }
@@ -58,7 +58,7 @@ fn insert(
     }
 }
 
-// Moves ack past all that is held in order: to the first number that is not held, top at the latest.
+// Moves ack past all that is held in order: to the first number not held, at most to top.
 fn in_order(r: Receiver, held: &[u64; 32]) -> Receiver
     requires { ⌜ LaidReceiver r × (r .«read_cursor» ≤ r .ack) ⌝ }
     ensures { λ r′. ⌜ Advanced r (now (held .entry)) r′ ⌝ }
@@ -75,7 +75,7 @@ fn in_order(r: Receiver, held: &[u64; 32]) -> Receiver
     s
 }
 
-// DATA with number n (in handle_incoming). What is older than ack has been delivered before, and may have been read: it is not held again.
+// DATA numbered n (in handle_incoming). A number below ack was delivered before and may already be read, so it is not held again.
 pub fn absorb(
     r: Receiver,
     held: &mut [u64; 32],

@@ -31,7 +31,7 @@ countedData t payload =
       «inflight_bytes» = t .«inflight_bytes»;
     }
 
--- an accepted call's clock
+-- the stream with the clock of an accepted call
 abbrev pub clockedStream : Stream → ℕ → Stream
 clockedStream s clock =
     record {

@@ -1,4 +1,4 @@
-// What every delivery notes, whatever its datagram holds: counts, clock, the largest ack and the window.
+// What every delivery updates, whatever its datagram holds: counts, clock, the largest ack and the window.
 ghost use mathlib.Core.Path.{_≡_};
 ghost use mathlib.Core.Bool.{cond};
 ghost use lib.Dec.{ltb};
@@ -40,7 +40,7 @@ pub fn counted_data(t: Totals, payload: usize) -> Totals
     }
 }
 
-// An accepted call's clock.
+// Sets the clock of the last accepted call.
 pub fn clocked(s: Stream, clock: Nanos) -> Stream
     ensures { λ r. ⌜ r ≡ clockedStream s (clock .0) ⌝ }
 {
@@ -62,7 +62,7 @@ fn window(cwnd: u32, remote_acked: u32, ack: u32) -> u32
     cwnd
 }
 
-// The largest ack since the last drive, and the window.
+// Updates the largest ack since the last drive, and the window.
 pub fn on_ack(s: Sender, ack: u32) -> Sender
     ensures { λ r. ⌜ r ≡ ackedSender s ack ⌝ }
 {

@@ -1,5 +1,5 @@
--- Each part of a delivery on the records is the model's part on what is seen: SACK blocks by the law of their run, END by that of
--- `terminate`, DATA by those of what is held and of a state packet. A part that the type does not ask for changes nothing.
+-- Each part of a delivery on the records agrees with the model's on what is seen: SACK blocks by the law of their run, END by that of
+-- `terminate`, DATA by those of holding DATA and of a state packet. A part whose type bit is not set changes nothing.
 use Prim.Native.Nat.{ℕ, _+_, _≤_}
 use native.Mathlib.Omega.{arith}
 use mathlib.Core.Path.{_≡_, refl, ap, ap₂, sym, _∙_}
@@ -35,7 +35,7 @@ use Rattle.deliver_parts.specs.Steps.{withSender, withReceiver, Sacked, 
 -- SACK blocks
 
 module _ (s : Stream) (t : Totals) (clock : ℕ) (h : Header) (payload : Bytes) (sent : List ℕ) where
-  -- the numbers that the blocks meet
+  -- the numbers before the blocks
   abbrev pub acksOf : Acks
   acksOf = record { sender = s .sender; rtt = s .timing .rtt; totals = t }
 

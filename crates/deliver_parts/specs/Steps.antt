@@ -1,4 +1,4 @@
--- The parts of a delivery on the records: each is the model's part on what is seen, over any words and stores that it is not lent.
+-- The parts of a delivery on the records: each agrees with the model's part on what is seen, whatever the words and stores it is not lent.
 use Prim.Native.Nat.{ℕ, _+_, _^_, _≤_, _<_}
 use mathlib.Core.Path.{_≡_}
 use mathlib.Core.List.{List}
@@ -25,7 +25,7 @@ use Rattle.records.specs.Laid.{LaidReceiver}
 use Rattle.deliver_data.specs.Absorbing.{Accepted}
 use Rattle.deliver_parts.specs.declared.Delivered.{Delivered}
 
--- a stream with another sender and estimate
+-- the stream with another sender and timing
 abbrev pub withSender : Sender → Timing → Stream → Stream
 withSender x t s =
     record {
@@ -52,7 +52,7 @@ withReceiver r s =
 
 -- SACK blocks
 
--- what 01's rules and refusal 4 give
+-- guaranteed by 01's rules and refusal 4
 pub record Measured (s : Stream) (clock : ℕ) : Type 0 where
   pub range : InRange (s .timing .rtt)
   pub early : clock < 2 ^ 60
@@ -65,7 +65,7 @@ pub record Sacked (s : Stream) (t : Totals) (clock : ℕ) (h : Header) (payload 
 
 -- END
 
--- one more state packet at most, and the queue stays as it is laid out
+-- at most one more state packet, and the queue stays laid out
 pub record Pushed (q : Queue) (queue : List ℕ) (q′ : Queue) (queue′ : List ℕ) (headers′ : Bytes) : Type 0 where
   pub left : q′ .left ≡ q .left
   pub count : q′ .count ≤ q .count + 1

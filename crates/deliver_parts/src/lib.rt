@@ -1,4 +1,4 @@
-// What a datagram does by its types, one part each: SACK blocks, END, DATA (handle_incoming).
+// What a datagram's type bits do, one part each: SACK blocks, END, DATA (handle_incoming).
 ghost use lib.ListN.{length};
 ghost use Rattle.close_state.specs.State.{Pushable};
 ghost use Rattle.deliver_parts.specs.Steps.{Measured, Sacked, Ended, TakesData, TookData};
@@ -11,13 +11,13 @@ use records::Timing;
 use records::Totals;
 use rtt::Nanos;
 
-// The numbers after a part of a delivery.
+// The stream and totals after one part of a delivery.
 pub struct Delivered {
     pub stream: Stream,
     pub totals: Totals,
 }
 
-// SACK blocks.
+// Acks the numbers of the SACK blocks.
 pub fn on_sack(
     s: Stream,
     t: Totals,

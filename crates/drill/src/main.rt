@@ -1,4 +1,4 @@
-// Runs the drill on standard input between two ends and writes a line for each command (docs/DRILL.md).
+// Runs the drill script on standard input on two ends and prints a line for each command (docs/DRILL.md).
 use constants::HEADER_STORE;
 use constants::INCOMING_STORE;
 use constants::OUTGOING_STORE;

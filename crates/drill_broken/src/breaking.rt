@@ -1,4 +1,4 @@
-// One thing of an end's records broken.
+// Breaks one thing in an end's records; docs/DRILL.md lists the values of `which`.
 use records::Clocks;
 use records::Ids;
 use records::Queue;
@@ -58,7 +58,7 @@ fn receiver(g: Receiver, which: u8) -> Receiver {
     }
 }
 
-// While entries are left to take, the queue is as many as are left: one more than there are is then one more than its words.
+// 24 leaves one more entry to take than the queue has words.
 fn queue(g: Queue, which: u8) -> Queue {
     Queue {
         count: g.count,
@@ -103,7 +103,7 @@ fn totals(t: Totals, which: u8) -> Totals {
     }
 }
 
-// The numbers of an end with thing `which` broken; 0 to 6 break none of them.
+// An end with thing `which` broken; 0 to 6 change nothing here: 1 to 6 are about the lengths of the stores.
 pub fn broken(e: SessionEnd, which: u8) -> SessionEnd {
     let mut s = e.stream;
     let i = ids(s.ids, which);

@@ -1,5 +1,5 @@
-// One call on a copy of an end with one thing broken. The stores are copied into spare ones, which have a byte more than a store, so that
-// one of another length can be lent.
+// One call on a copy of an end with one thing broken. The stores are copied into spare ones, a byte longer than a store, so that a store of
+// the wrong length can be lent.
 mod breaking;
 
 ghost use Prim.Native.Nat.{_+_, _≤_};
@@ -36,7 +36,7 @@ fn taken(e: SessionEnd, outgoing: &[u8], incoming: &[u8], headers: &[u8]) -> Out
     outcome_of(session_ends::take(e, outgoing, incoming, headers, &mut buf))
 }
 
-// A datagram that carries nothing: type 0, the end's id, and all else 0.
+// Delivers a datagram that carries nothing: type 0, the end's id, and all else 0.
 fn delivered(
     e: SessionEnd,
     clock: Nanos,
@@ -70,7 +70,7 @@ fn looked<'a>(e: SessionEnd, outgoing: &'a [u8], incoming: &[u8], headers: &'a [
     }
 }
 
-// Call 0 to 7 on an end.
+// Makes one of the calls 0 to 7 (docs/DRILL.md).
 fn call(
     e: SessionEnd,
     which: u8,
@@ -91,7 +91,7 @@ fn call(
     }
 }
 
-// The length of a store that `short` and `long` spoil.
+// The length to lend: a byte less if `which` is `short`, a byte more if it is `long`.
 fn spoilt(which: u8, short: u8, long: u8, size: usize) -> usize
     requires { ⌜ 1 ≤ size ⌝ }
     requires { ⌜ size ≤ 1_000_000 ⌝ }
@@ -106,7 +106,7 @@ fn spoilt(which: u8, short: u8, long: u8, size: usize) -> usize
     size
 }
 
-// The call on an end whose stores have these lengths.
+// Breaks thing `which` and makes the call.
 fn call_over(
     e: SessionEnd,
     which: u8,
@@ -137,7 +137,7 @@ fn copy_store(store: &[u8], spare: &mut [u8]) {
     }
 }
 
-// Call `number` with thing `which` broken.
+// Makes call `number` with thing `which` broken.
 pub fn spoil(
     e: SessionEnd,
     which: u8,

@@ -1,4 +1,4 @@
-// The drill's lines, from the start of a buffer.
+// Formats the drill's output lines, each at the start of a buffer.
 ghost use Prim.Native.Nat.{_+_, _*_, _≤_};
 ghost use lib.ListN.{length};
 use error::Outcome;
@@ -57,7 +57,7 @@ fn put_numbers(out: &mut [u8], at: usize, numbers: &[u64]) -> usize
     to
 }
 
-// Bytes after a space, then the line's end.
+// Bytes after a space, then the end of the line.
 fn put_last_bytes(out: &mut [u8], at: usize, bytes: &[u8]) -> usize
     requires { ⌜ at + 2 * length (now bytes) + 3 ≤ length (now out) ⌝ }
     ensures { λ r. ⌜ r ≤ at + 2 * length (now (bytes .entry)) + 3 ⌝ }

@@ -1,4 +1,4 @@
-// A script's lines beside its recorded answer.
+// Compares a script's lines with its recorded answer.
 ghost use lib.ListN.{length};
 ghost use Rattle.session_turn.specs.Turned.{Turned};
 use constants::HEADER_STORE;
@@ -15,14 +15,14 @@ use session_turn::Turn;
 
 pub struct Compared {
     pub same: bool,
-    // How many lines are the same, up to the first that is not.
+    // How many lines are the same before the first that differs.
     pub lines: u64,
-    // Where the answer's next line starts, and how long the line is that was put instead.
+    // Where the answer's next line starts, and the length of the line that was put instead.
     pub at: usize,
     pub len: usize,
 }
 
-// One command of a script of either kind.
+// Runs one command of a script of either kind.
 fn turn(
     kind: u8,
     ends: Ends,
@@ -81,7 +81,7 @@ fn turn(
     )
 }
 
-// The answer goes on at `at` with the first `len` bytes of the line.
+// Whether the answer continues at `at` with the first `len` bytes of the line.
 fn goes_on(answer: &[u8], at: usize, line: &[u8], len: usize) -> bool {
     if answer.len() < at {
         return false;
@@ -212,7 +212,7 @@ pub fn compare(
     )
 }
 
-// The first n bytes, or all of them where there are fewer.
+// The first n bytes, or all of them if there are fewer.
 pub fn front(bytes: &[u8], n: usize) -> &[u8] {
     if n < bytes.len() {
         return &bytes[0..n];

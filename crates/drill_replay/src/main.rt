@@ -19,10 +19,10 @@ use session_kept::KEPT_STORE;
 use session_text::LINE;
 use session_turn::SCRATCH;
 
-// Most bytes of a script, and of an answer.
+// The most bytes that a script or an answer may have.
 const MOST: usize = 65_536;
 
-// The tally after the next script, where there is one.
+// Runs the next script, if there is one, and returns the new tally.
 fn run_next(
     tally: Tally,
     fd: i32,
@@ -75,7 +75,7 @@ fn run_next(
     }
 }
 
-// All scripts of the file, a million at most.
+// Runs all scripts of the file, a million at most.
 fn run(
     fd: i32,
     script: &mut [u8; MOST],

@@ -1,6 +1,6 @@
-// The next script of the file.
+// Reads the next script of the file.
 
-// Its kind, and how many bytes the script and its answer have; or why there is none.
+// The script's kind, its length and its answer's length; or why there is none.
 pub enum Next {
     Script {
         kind: u8,
@@ -25,7 +25,7 @@ fn read_both(fd: i32, script: &mut [u8], n: usize, answer: &mut [u8], m: usize) 
     false
 }
 
-// Reads the script and the answer to the start of their buffers.
+// Reads the script and the answer into the start of their buffers.
 pub fn read_next(fd: i32, script: &mut [u8], answer: &mut [u8]) -> Next {
     let mut head = [0u8; 9];
     let got = io::read_full(fd, &mut head);

@@ -1,4 +1,4 @@
-// What the run says.
+// What the run prints.
 use crate::comparing::Compared;
 use crate::comparing::front;
 use libc::STDOUT_FILENO;
@@ -29,7 +29,7 @@ fn print_number(n: u64) {
     io::print_decimal(STDOUT_FILENO, n);
 }
 
-// The bytes from `at` on up to the line's end.
+// The line that starts at `at`, without its newline; empty if it has none.
 fn line_at(answer: &[u8], at: usize) -> &[u8] {
     let mut end = at;
     while end < answer.len() {
@@ -41,7 +41,7 @@ fn line_at(answer: &[u8], at: usize) -> &[u8] {
     &answer[0..0]
 }
 
-// The first difference: its script and line, both counted from 1, and what stands there.
+// Prints the first difference: its script and line, both counted from 1, and the line recorded and put.
 fn print_difference(number: u64, c: Compared, answer: &[u8], line: &[u8]) {
     print(b"script ");
     print_number(number);
@@ -56,7 +56,7 @@ fn print_difference(number: u64, c: Compared, answer: &[u8], line: &[u8]) {
     }
 }
 
-// The tally with one script more.
+// Counts one more script, and prints the first difference.
 pub fn report(t: Tally, c: Compared, answer: &[u8], m: usize, line: &[u8]) -> Tally {
     if c.same {
         return Tally {

@@ -1,4 +1,4 @@
-// The drill's commands as bytes.
+// Parses the drill's commands.
 ghost use Prim.Native.Nat.{_<_, _≤_};
 ghost use lib.ListN.{length};
 use packet::Header;
@@ -50,13 +50,13 @@ pub enum Drill {
         call: u8,
         clock: Nanos,
     },
-    // It ends the run.
+    // Ends the run.
     Bad,
-    // A session's command, or no command at all: the session tells.
+    // A session command, or not a command at all: the session decides.
     Session,
 }
 
-// A command's bytes without those whose number it gives itself; 0 where it is none of the drill's.
+// A command's fixed length, without the bytes it counts itself; 0 if it is not a drill command.
 fn fixed_size(command: u8) -> usize
     ensures { λ r. ⌜ r ≤ 20 ⌝ }
 {
@@ -75,7 +75,7 @@ fn fixed_size(command: u8) -> usize
     }
 }
 
-// The bytes at the end of a command whose number it gives itself.
+// How many bytes follow the fixed ones: the command's own count.
 fn more(s: &[u8]) -> usize
     ensures { λ r. ⌜ r ≤ 65_535 ⌝ }
 {
@@ -86,7 +86,7 @@ fn more(s: &[u8]) -> usize
     }
 }
 
-// The header that an encode gives.
+// The header operand of an encode.
 fn header(s: &[u8]) -> Header {
     Header {
         typ: byte_at(s, 2),
@@ -126,7 +126,7 @@ fn spoil(s: &[u8], end: u8) -> Drill {
     }
 }
 
-// The command at the front of s, which has all of its operands.
+// The command at the front of s, which is long enough for its operands.
 fn operands(s: &[u8]) -> Drill {
     let end = byte_at(s, 1);
     match byte_at(s, 0) {
@@ -153,7 +153,7 @@ fn operands(s: &[u8]) -> Drill {
     }
 }
 
-// The operands are in their ranges.
+// Whether the operands are in range.
 fn in_range(drill: Drill) -> bool {
     match drill {
         Drill::Raw {
@@ -197,14 +197,14 @@ fn both(a: bool, b: bool) -> bool {
     if a { b } else { false }
 }
 
-// A command and how many bytes of the script it takes: all that are left where it ends the run. Of a session's command the first byte
-// alone counts here: the session tells the rest.
+// A command and how many bytes of the script it takes: all that are left if it ends the run, and 1 if it is a session command, which the
+// session parses.
 pub struct Parsed {
     pub drill: Drill,
     pub size: usize,
 }
 
-// The command at the front of what is left of a script.
+// Parses the command at the front of what is left of a script.
 pub fn parse(s: &[u8]) -> Parsed
     requires { ⌜ 0 < length (now s) ⌝ }
     ensures { λ r. ⌜ (0 < r .size) × (r .size ≤ length (now (s .entry))) ⌝ }

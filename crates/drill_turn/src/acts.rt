@@ -1,4 +1,4 @@
-// The drill's commands on an end, each with its line.
+// Runs the drill's commands on an end; each writes its line.
 ghost use Prim.Native.Nat.{_≤_};
 ghost use lib.ListN.{length};
 use crate::numbers::numbers;
@@ -22,7 +22,7 @@ use session_text::LINE;
 use session_turn::Acted;
 use session_turn::SCRATCH;
 
-// The bytes from a place of a command on, n of them, or none where they are not there.
+// The n bytes of a command from `place` on, or none if the command is too short.
 fn part(s: &[u8], place: u8, n: u16) -> &[u8] {
     let at = place as usize;
     let end = at + n as usize;
@@ -62,7 +62,7 @@ fn both(a: bool, b: bool) -> bool {
     if a { b } else { false }
 }
 
-// Some number from `from` to below `to` is held, of 32 at most.
+// Whether a number from `from` to below `to` is held; looks at 32 at most.
 fn any_held(held: &[u64; 32], from: u32, to: u32) -> bool {
     let mut n = from;
     let mut left: u32 = 32;
@@ -79,7 +79,7 @@ fn any_held(held: &[u64; 32], from: u32, to: u32) -> bool {
     false
 }
 
-// The end is as one that has just been opened, but for its numbers.
+// What base requires: nothing stored, held, unread or queued, largest ack 0 and no error.
 fn is_empty(e: SessionEnd) -> bool {
     let s = e.stream;
     let held = e.held;
@@ -97,7 +97,7 @@ fn is_empty(e: SessionEnd) -> bool {
     false
 }
 
-// Nothing is stored, held or queued, so that no word tells of a packet.
+// Nothing is stored, held or queued, so the words can be cleared.
 fn based(e: SessionEnd, seq: u32, ack: u32, window: u32) -> SessionEnd {
     let mut s = e.stream;
     s.sender.seq = seq;
@@ -139,7 +139,7 @@ fn is_ready(outcome: Outcome) -> bool {
     }
 }
 
-// Opens the end anew; its words stay as they are.
+// Reopens the end; its words stay as they are.
 fn open(
     e: SessionEnd,
     number: u8,
@@ -167,7 +167,7 @@ fn open(
     Acted { end, len }
 }
 
-// The sum that stands for a batch's bytes.
+// The checksum of a batch's bytes that the line prints.
 fn sum(batch: &[u8]) -> u64 {
     let mut sum: u64 = 0;
     let mut i: usize = 0;
@@ -243,7 +243,7 @@ fn encode_into(h: Header, buf: &mut [u8], line: &mut [u8; LINE]) -> usize
     drill_lines::put_encoded(line, outcome, buf)
 }
 
-// The buffer that an encode writes to, filled with aa before.
+// Encodes into a buffer filled with aa, so that bytes left alone can be seen.
 fn encode(size: u8, h: Header, line: &mut [u8; LINE]) -> usize
     ensures { λ r. ⌜ r ≤ 8_400 ⌝ }
 {
@@ -261,7 +261,7 @@ fn decode(bytes: &[u8], line: &mut [u8; LINE]) -> usize
     }
 }
 
-// One of the drill's commands, which stands at the front of s.
+// Runs a drill command; s starts with its bytes.
 pub fn act(
     e: SessionEnd,
     drill: Drill,

@@ -1,4 +1,4 @@
-// The drill's commands beside the session's: what they read, do and say stands in docs/DRILL.md.
+// The commands that the drill adds to the session's; docs/DRILL.md describes them.
 mod acts;
 mod numbers;
 mod running;

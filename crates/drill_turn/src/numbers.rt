@@ -37,7 +37,7 @@ fn has_ended(e: Ending) -> u64 {
     if e.ended { 1 } else { 0 }
 }
 
-// While entries are left to take, the queue is these.
+// While entries are left to take, they are the whole queue.
 fn entries(q: Queue) -> u64 {
     if 0 < q.left {
         q.left as u64

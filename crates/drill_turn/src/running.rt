@@ -1,4 +1,4 @@
-// One command of a drill's script.
+// Runs one command of a drill script.
 ghost use Prim.Native.Nat.{_<_, _≤_};
 ghost use lib.ListN.{length};
 ghost use Rattle.session_turn.specs.Turned.{Turned};
@@ -16,7 +16,7 @@ use session_turn::Ends;
 use session_turn::SCRATCH;
 use session_turn::Turn;
 
-// The end that a command is for: 0 where it is for none of them, 2 where it ends the run, 3 where the session runs it.
+// The end that a command is for: 0 if it needs none, 2 if it ends the run, 3 if the session runs it.
 fn end_of(drill: Drill) -> u8 {
     match drill {
         Drill::Raw {
@@ -56,7 +56,7 @@ fn end_of(drill: Drill) -> u8 {
     }
 }
 
-// The command at a place of a script, and where the next one starts.
+// A command of a script, and where the next one starts.
 struct Placed {
     drill: Drill,
     next: usize,
@@ -74,7 +74,7 @@ fn command_at(script: &[u8], at: usize) -> Placed
     }
 }
 
-// The command at `at`. Past the script's end nothing happens and the line is empty.
+// Runs the command at `at`. Past the script's end nothing happens and the line is empty.
 pub fn run_one(
     ends: Ends,
     script: &[u8],

@@ -1,4 +1,4 @@
--- The parts of a drive one after another are `pollDrive`. The queue has room: what is queued at rest and one state packet more leave a
+-- The parts of a drive in sequence are the model's `pollDrive`. The queue has room: the queue at rest and one more state packet leave a
 -- place for every number.
 use Prim.Native.Nat.{ℕ, _+_, _-_, _≤_, _<_}
 use native.Mathlib.Omega.{arith}
@@ -49,7 +49,7 @@ module _ {s : Stream} {clock : ℕ} {sent queue : List ℕ} {headers : Bytes} (d
       still-formed : formedQueue (a .stream .queue) queue ≡ true
       still-formed = subst (λ (q : Queue). formedQueue q queue ≡ true) (sym queue-same) (d .formed)
 
-      -- settling lowers the numbers that may be queued, and the entries stay
+      -- settling reduces the numbers that may be queued, and keeps the entries
       room : r .stream .queue .count + (r .stream .sender .seq - r .stream .sender .«remote_acked») ≤ 128
       room =
           let count = ap (λ (q : Queue). q .count) queue-same in

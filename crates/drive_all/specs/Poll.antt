@@ -1,4 +1,4 @@
--- A whole drive on the records: what may be assumed of it, and that what is seen is the model's.
+-- A whole drive on the records: its precondition, and that what is seen agrees with the model.
 use Prim.Native.Nat.{ℕ, _+_, _-_, _^_, _≤_, _<_}
 use mathlib.Core.Path.{_≡_}
 use mathlib.Core.List.{List}
@@ -16,7 +16,7 @@ use Rattle.drive_settle.specs.declared.Polled.{Polled}
 use Rattle.drive_settle.specs.Settling.{Acked}
 use Rattle.drive_timeouts.specs.Timeouts.{withPolled}
 
--- an accepted drive is the last call with a clock and the last drive
+-- the stream with this clock as that of the last accepted call and of the last drive
 abbrev pub drivenAt : ℕ → Stream → Stream
 drivenAt clock s =
     record {
@@ -29,8 +29,8 @@ drivenAt clock s =
       clocks = record { last = nanos clock; drive = nanos clock };
     }
 
--- what 01's rules and the refusals of a drive give: with nothing left to take the queue has at most 63 state packets and a packet for each
--- number, so that one state packet more and every number once more still fit
+-- guaranteed by 01's rules and the refusals of a drive: with nothing left to take, the queue has at most 63 state packets and one entry
+-- per number, so one more state packet and every number once more still fit
 pub record CanDrive (s : Stream) (clock : ℕ) (sent queue : List ℕ) (headers : Bytes) : Type 0 where
   pub acked : Acked s clock
   pub stored : AllSentBounds (s .sender) sent
@@ -56,7 +56,7 @@ pub record Begun (s : Stream) (t : Totals) (clock : ℕ) (sent queue : List ℕ)
   pub flushable : Flushable (r .stream) sent′ queue′
   pub whole : length headers′ ≡ 1_280
 
--- 01, call 4: "Then waiting packets are queued ascending until inflight + length exceeds the window", and what is queued is left to take
+-- 01, call 4: "Then waiting packets are queued ascending until inflight + length exceeds the window", and everything queued is left to take
 pub record PollFlushes (s : Stream) (sent queue : List ℕ) (r : Stream) (sent′ queue′ : List ℕ) : Type 0 where
   pub seen-after : (t : Totals) (l : Lent) → seen r t (withQueued sent′ queue′ l) ≡ drive.leftToTake (drive.flush (seen s t (withQueued sent queue l)))
   pub receiver : r .receiver ≡ s .receiver

@@ -9,7 +9,7 @@ use records::Stream;
 use records::Totals;
 use rtt::Nanos;
 
-// An accepted drive is the last call with a clock and the last drive.
+// Sets the clock of the last accepted call and of the last drive.
 pub fn clocked(s: Stream, clock: Nanos) -> Stream
     ensures { λ r. ⌜ r ≡ drivenAt (clock .0) s ⌝ }
 {
@@ -22,7 +22,7 @@ pub fn clocked(s: Stream, clock: Nanos) -> Stream
     stream
 }
 
-// What comes before waiting packets are queued.
+// Everything before waiting packets are queued.
 fn before_flush(
     s: Stream,
     t: Totals,
@@ -42,7 +42,7 @@ fn before_flush(
     poll_check_timeouts(settled, totals, clock, sent, queue, headers)
 }
 
-// Waiting packets are queued, and what is queued is left to take.
+// Queues waiting packets, and leaves everything queued to take.
 fn flush(s: Stream, sent: &mut [u64; 64], queue: &mut [u64; 128]) -> Stream
     requires { ⌜ Flushable s (now sent) (now queue) ⌝ }
     ensures { λ r. ⌜ PollFlushes s (now (sent .entry)) (now (queue .entry)) r (now (sent .exit)) (now (queue .exit)) ⌝ }
@@ -60,7 +60,7 @@ fn flush(s: Stream, sent: &mut [u64; 64], queue: &mut [u64; 128]) -> Stream
     stream
 }
 
-// poll_drive. After TimedOut the poll runs again at that clock, when nothing is settled or due any more, and flushes.
+// After TimedOut the poll runs again at that clock: nothing is left to settle and nothing is due, so it only flushes.
 pub fn poll_drive(
     s: Stream,
     t: Totals,

@@ -1,5 +1,5 @@
--- The search for a stored packet (`Searching`): none of the numbers before n is stored, so what the model finds from n on is what it finds
--- from the first. With nothing left to take the queue is empty just where its count is 0.
+-- The search for a stored packet. Invariant (`Searching`): no number before n is stored, so the model finds from n on what it finds from
+-- the first. With nothing left to take, the queue is empty exactly when its count is 0.
 use Prim.Native.Nat.{ℕ, suc, _+_, _-_, _%_, _≤_, _<_}
 use native.Mathlib.Numerals.{add-one}
 use native.Mathlib.Omega.{arith}
@@ -27,7 +27,7 @@ use Rattle.drive_drain.specs.Draining.{AnyStored, Drains, LeavesToTake}
 
 -- any_stored
 
--- the store that is seen
+-- what is seen of the store
 abbrev storeSeen : Sender → List ℕ → Bytes → Slots model.Packet
 storeSeen s sent outgoing = seenOutgoing (s .«remote_acked») (s .seq) sent outgoing
 
@@ -50,7 +50,7 @@ module _ {s : Sender} {sent : List ℕ} {n : ℕ} (g : Searching s sent n) where
       record { found = λ outgoing. ap (λ (k : ℕ). anyStored k n (storeSeen s sent outgoing)) (sym over) ∙ g .same outgoing }
 
   module _ (more : n < s .seq) (outgoing : Bytes) where
-    -- number n, and what is found past it
+    -- what is found past number n
     abbrev past : Bool
     past = anyStored (s .seq - (n + 1)) (suc n) (storeSeen s sent outgoing)
 
@@ -122,7 +122,7 @@ module _ (error : UdxError) (q : Queue) (s : Sender) (sent : List ℕ) where
   pub queued : q .left ≡ 0 → q .count ≢ 0 → Drains error q s sent false
   queued rest e = tested false (λ words outgoing headers long. rw (queue-full q words headers rest e long) (neither (isSet error)))
 
-  -- nothing is
+  -- nothing is queued
   pub stored-or-not : q .left ≡ 0 → isSet error ≡ true → q .count ≡ 0 → (any : Bool) → AnyStored s sent any → Drains error q s sent (not any)
   stored-or-not rest set e any a =
       tested (not any) (λ words outgoing headers long. rw (set, queue-empty q words headers rest e) (ap not (a .found outgoing)))

@@ -1,4 +1,5 @@
--- The ends of a drive on the records: whether anything is stored, whether a stream that ended is drained, and the queue that a drive leaves.
+-- How a drive starts and finishes on the records: whether anything is stored, whether a stream with an error is drained, and the queue that
+-- the drive leaves.
 use Prim.Native.Nat.{ℕ, _-_, _≤_}
 use mathlib.Core.Path.{_≡_}
 use mathlib.Core.List.{List}
@@ -14,12 +15,12 @@ use Rattle.records.specs.declared.Totals.{Totals}
 use Rattle.records.specs.Seen.{Lent, seen, seenOutgoing, QueueFormed}
 use Rattle.records.specs.Setters.{withQueue}
 
--- one of the numbers is stored
+-- whether one of the numbers is stored
 pub record AnyStored (s : Sender) (sent : List ℕ) (r : Bool) : Type 0 where
   pub found : (outgoing : Bytes)
       → r ≡ drive.anyStored (s .seq - s .«remote_acked») (s .«remote_acked») (seenOutgoing (s .«remote_acked») (s .seq) sent outgoing)
 
--- closed_and_drained. 01, call 4: "an error is set and queue and outgoing store are empty", of any stream with these numbers and words
+-- closed_and_drained. 01, call 4: "an error is set and queue and outgoing store are empty", for any stream with these numbers and words
 pub record Drains (error : UdxError) (q : Queue) (s : Sender) (sent : List ℕ) (r : Bool) : Type 0 where
   pub test : (st : Stream) (t : Totals) (l : Lent) → st .ending .error ≡ error → st .queue ≡ q → st .sender ≡ s → l .sent ≡ sent → length (l .queue) ≡ 128
       → r ≡ drive.drained (seen st t l)

@@ -1,11 +1,11 @@
-// The ends of a drive: whether a stream that ended is drained (closed_and_drained), and what a drive leaves to take.
+// How a drive starts and finishes: whether a stream with an error is drained (closed_and_drained), and what the drive leaves to take.
 ghost use mathlib.Core.Path.{_≡_};
 ghost use Rattle.drive_drain.specs.Draining.{AnyStored, Drains, LeavesToTake};
 use error::UdxError;
 use records::Queue;
 use records::Sender;
 
-// A packet is stored: not outgoing.is_empty().
+// Whether a packet is stored: !outgoing.is_empty().
 pub fn any_stored(s: Sender, sent: &[u64; 64]) -> bool
     ensures { λ r. ⌜ AnyStored s (now (sent .entry)) r ⌝ }
 {
@@ -20,7 +20,7 @@ pub fn any_stored(s: Sender, sent: &[u64; 64]) -> bool
     false
 }
 
-// An error is set, and queue and outgoing store are empty. Nothing is left to take, so the queue has `count` entries.
+// Whether an error is set and queue and outgoing store are empty. Nothing is left to take, so the queue has `count` entries.
 pub fn drained(error: UdxError, q: Queue, s: Sender, sent: &[u64; 64]) -> bool
     requires { ⌜ q .left ≡ 0 ⌝ }
     ensures { λ r. ⌜ Drains error q s (now (sent .entry)) r ⌝ }
@@ -34,7 +34,7 @@ pub fn drained(error: UdxError, q: Queue, s: Sender, sent: &[u64; 64]) -> bool
     false
 }
 
-// What is queued is left to take.
+// Leaves everything queued to take.
 pub fn left_to_take(q: Queue) -> Queue
     requires { ⌜ q .left ≡ 0 ⌝ }
     ensures { λ r. ⌜ LeavesToTake q r ⌝ }

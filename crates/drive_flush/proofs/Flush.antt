@@ -1,6 +1,6 @@
--- The loop over the waiting packets of the records (`Going`): what the model's loop does from number n on is what it does from the first,
--- each turn being one turn of it. A packet that is not there or does not wait is passed, one that does not fit ends the loop, any other is
--- marked and queued. There is a place in the queue for each number that is left.
+-- The loop over the waiting packets of the records. Invariant (`Going`): the model's loop from number n on gives the result of the whole
+-- loop. Each turn is one turn of the model: a packet that is missing or not waiting is skipped, one that does not fit ends the loop, any
+-- other is marked and queued. The queue has a place for each number left.
 use Prim.Native.Nat.{ℕ, suc, _+_, _-_, _%_, _^_, _≤_, _<_}
 use native.Mathlib.Numerals.{add-one}
 use native.Mathlib.Omega.{arith}
@@ -31,7 +31,7 @@ use Rattle.drive_lost.specs.Packets.{AllSentBounds, withInflight}
 use Rattle.drive_flush.specs.Flushing.{flushedPacket, flushedEntry, withCount, flushedOf, FlushesPacket, Roomy, Flushes}
 use Rattle.drive_lost.proofs.Remark.{transmits-fit, remark-length, remark-seen, stored-again}
 
--- an end with the sender and the queue that are seen
+-- an end with what is seen of the sender and the queue
 abbrev seenOf : Sender → Queue → (sent queue : List ℕ) (outgoing headers : Bytes) → model.End → model.End
 seenOf s q sent queue outgoing headers e = model.withQueue (seenQueue q queue headers) (model.withSender (seenSender s sent outgoing) e)
 
@@ -63,7 +63,7 @@ module _ (s : Sender) (q : Queue) (sent queue : List ℕ) (n : ℕ) (low : s .«
   unfolding flushLoop
   turn-is = ap at (get-outgoing (s .«remote_acked») (s .seq) sent outgoing n low high)
 
-  -- it is not there, or does not wait
+  -- it is missing, or not waiting
   passed : (isStored here n && here .waiting) ≡ false → flushLoop (suc k) n end ≡ next end
   passed h = turn-is ∙ go (isStored here n) (here .waiting) refl h
     where
@@ -76,7 +76,7 @@ module _ (s : Sender) (q : Queue) (sent queue : List ℕ) (n : ℕ) (low : s .«
   unfolding fits
   fits-is = ap (λ (m : ℕ). leb (s .inflight + m) (s .cwnd)) (cut-length outgoingSlot outgoing (n % ceiling) (here .length))
 
-  -- it waits, and fits or not
+  -- it is waiting, and fits or does not
   waited : (isStored here n && here .waiting) ≡ true → (b : Bool) → leb (s .inflight + here .length) (s .cwnd) ≡ b
       → flushLoop (suc k) n end ≡ cond b (next (flushed n shown end)) end
   waited h b l =
@@ -145,7 +145,7 @@ module _ {s : Sender} {q : Queue} {sent₀ queue₀ sent queue : List ℕ} {infl
     pub place : count < 128
     place = let r = g .room in omega arith
 
-    -- one turn of the model's loop, that of number n
+    -- the model's turn for number n
     one : (e e′ : model.End) → flushLoop (suc (s .seq - (n + 1))) n e ≡ flushLoop (s .seq - (n + 1)) (suc n) e′
         → flushLoop (s .seq - (n + 1)) (n + 1) e′ ≡ flushLoop (s .seq - n) n e
     one e e′ h = ap (λ (m : ℕ). flushLoop (s .seq - (n + 1)) m e′) (add-one n) ∙ sym h ∙ ap (λ (m : ℕ). flushLoop m n e) (sym left-is)
@@ -194,7 +194,7 @@ module _ {s : Sender} {q : Queue} {sent₀ queue₀ sent queue : List ℕ} {infl
         roomy : count < length queue
         roomy = let r = place in let l = g .queue-long in omega arith
 
-        -- the records after it are seen as the model's
+        -- what is seen of the records after it is the model's
         flushed-seen : (outgoing headers : Bytes) (e : model.End)
             → seenOf (withInflight (inflight + packet .length) s) (withCount (count + 1) q) sent-after queue-after outgoing headers e
             ≡ flushed n (packetOf outgoing (n % ceiling) packet) (seenNow outgoing headers e)
@@ -228,7 +228,7 @@ module _ {s : Sender} {q : Queue} {sent₀ queue₀ sent queue : List ℕ} {infl
                   ∙ g .same outgoing headers e;
             }
 
--- the same of what the code read and made: p is the packet of n
+-- the same for the code's values: p is the packet read at n
 pub goes-again : {s : Sender} {q : Queue} {sent₀ queue₀ sent queue : List ℕ} {inflight count n : ℕ} → Going s q sent₀ queue₀ sent queue inflight count n → n < s .seq → n < 2 ^ 32
     → (p : Sent) → p ≡ sentIn sent (n % ceiling) → (isStored p n && p .waiting) ≡ true → leb (inflight + p .length) (s .cwnd) ≡ true
     → (sent′ queue′ : List ℕ) → FlushesPacket p count sent queue sent′ queue′ → Going s q sent₀ queue₀ sent′ queue′ (inflight + p .length) (count + 1) (n + 1)

@@ -1,4 +1,4 @@
--- Waiting packets of the records are queued again: the model's loop on what is seen.
+-- Queuing the waiting packets of the records again: it agrees with the model's loop on what is seen.
 use Prim.Native.Nat.{ℕ, _+_, _-_, _≤_}
 use mathlib.Core.Path.{_≡_}
 use mathlib.Core.List.{List}
@@ -26,7 +26,7 @@ flushedPacket p =
 abbrev pub flushedEntry : Sent → Entry
 flushedEntry p = record { number = p .number; length = p .length; state = false }
 
--- it does not wait any more, and is the queue's entry `at`
+-- the packet is no longer waiting, and is the queue's entry `at`
 pub record FlushesPacket (p : Sent) (at : ℕ) (sent queue sent′ queue′ : List ℕ) : Type 0 where
   pub sent-words : sent′ ≡ withSent sent (p .number) (flushedPacket p)
   pub queue-words : queue′ ≡ set queue at (entryWord (flushedEntry p))
@@ -56,9 +56,9 @@ abbrev pub withQueued : (sent queue : List ℕ) → Lent → Lent
 withQueued sent queue l =
     record { sent = sent; held = l .held; queue = queue; outgoing = l .outgoing; incoming = l .incoming; headers = l .headers }
 
--- what 01's rules give: each stored packet keeps them, nothing is left to take, and the queue, "an array of entries, 128 at most", has a
--- place for each number. A queue at rest has at most 63 state packets and one entry for each of 32 numbers, and TimedOut adds a state
--- packet: 32 places are left.
+-- guaranteed by 01's rules: every stored packet obeys them, nothing is left to take, and the queue, "an array of entries, 128 at most",
+-- has a place for each number. A queue at rest has at most 63 state packets and one entry for each of 32 numbers, and TimedOut adds a
+-- state packet: 32 places are left.
 pub record Roomy (s : Sender) (q : Queue) (sent : List ℕ) : Type 0 where
   pub stored : AllSentBounds s sent
   pub rest : q .left ≡ 0
@@ -66,11 +66,11 @@ pub record Roomy (s : Sender) (q : Queue) (sent : List ℕ) : Type 0 where
 
 -- 01, call 4: "waiting packets are queued ascending until inflight + length exceeds the window" (flush_waiting_packets)
 pub record Flushes (s : Sender) (q : Queue) (sent queue : List ℕ) (r : Flushed) (sent′ queue′ : List ℕ) : Type 0 where
-  -- for any stream with these numbers and words the end is the model's
+  -- for any stream with these numbers and words, the end is the model's
   pub end : (st : Stream) (t : Totals) (l : Lent)
       → seen (withFlushed (r .sender) (r .queue) st) t (withQueued sent′ queue′ l) ≡ drive.flush (seen (withFlushed s q st) t (withQueued sent queue l))
-  -- inflight alone differs in the sender
+  -- only inflight differs in the sender
   pub numbers : r .sender ≡ withInflight (r .sender .inflight) s
-  -- nothing is left to take, and the queue stays laid out as it was
+  -- nothing is left to take, and the queue stays laid out
   pub rest : r .queue .left ≡ 0
   pub formed : QueueFormed q queue → QueueFormed (r .queue) queue′

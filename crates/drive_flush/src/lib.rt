@@ -1,4 +1,4 @@
-// Waiting packets are queued again while they fit the window (flush_waiting_packets).
+// Queues waiting packets again while they fit the window (flush_waiting_packets).
 ghost use mathlib.Core.Path.{_≡_};
 ghost use mathlib.Core.Bool.{_&&_};
 ghost use Prim.Native.Nat.{_+_, _<_};
@@ -18,7 +18,7 @@ pub struct Flushed {
     pub queue: Queue,
 }
 
-// It is packet n, and waits.
+// Whether p is packet n and waiting.
 fn waits(p: Sent, n: u32) -> bool
     ensures { λ r. ⌜ r ≡ (isStored p n && p .waiting) ⌝ }
 {
@@ -75,7 +75,7 @@ fn with_flushed(s: Sender, q: Queue, inflight: u32, count: u32) -> Flushed
     }
 }
 
-// The packet does not wait any more, and is the queue's entry `at`.
+// The packet is no longer waiting, and becomes the queue's entry `at`.
 fn flush_packet(p: Sent, at: u32, sent: &mut [u64; 64], queue: &mut [u64; 128])
     requires { ⌜ at < 128 ⌝ }
     ensures { λ _. ⌜ FlushesPacket p at (now (sent .entry)) (now (queue .entry)) (now (sent .exit)) (now (queue .exit)) ⌝ }
@@ -84,7 +84,7 @@ fn flush_packet(p: Sent, at: u32, sent: &mut [u64; 64], queue: &mut [u64; 128])
     records::put_entry(queue, at as usize, flushed_entry(p));
 }
 
-// The waiting packets, ascending, up to the first that does not fit: each counts as inflight again and is queued.
+// Flushes the waiting packets, ascending, up to the first that does not fit: each counts as inflight again and is queued.
 pub fn flush_waiting_packets(
     s: Sender,
     q: Queue,

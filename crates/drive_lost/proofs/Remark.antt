@@ -1,5 +1,5 @@
--- A stored packet gets another waiting mark and another number of transmits: the words say just that, what is seen is the model's store with
--- that packet marked, and every stored packet keeps the rules that it is read by.
+-- Giving a stored packet another waiting mark and transmit count: the words change in exactly that, what is seen is the model's store with
+-- that packet marked, and every stored packet stays within its bounds.
 use Prim.Native.Nat.{ℕ, _+_, _%_, _^_, _≤_, _<_}
 use native.Mathlib.Omega.{arith}
 use mathlib.Core.Path.{_≡_, refl}
@@ -22,7 +22,7 @@ use Rattle.records_words.proofs.WordLaws.{sent-back, stored-number, stored-full
 use Rattle.records.proofs.SeenOutgoing.{remark-outgoing}
 use Rattle.drive_lost.specs.Packets.{SentBounds, AllSentBounds}
 
--- what a word says fits a word again
+-- a packet read from a word fits a word again
 
 pub untimed : (w time : ℕ) → sentOf w time .timed ≡ false → sentOf w time .«sent_at» .0 ≡ 0
 unfolding sentOf
@@ -64,7 +64,7 @@ module _ (words : List ℕ) (long : length words ≡ 64) (n : ℕ) (p : Sent) wh
 
 module _ (s : Sender) (sent : List ℕ) (long : length sent ≡ 64) (stored : AllSentBounds s sent) (n : ℕ) (low : s .«remote_acked» ≤ n) (high : n < s .seq)
     (here : isStored (sentIn sent (n % ceiling)) n ≡ true) (fits : n < 2 ^ 32) (waiting : Bool) (transmits : ℕ) (few : transmits < 32) where
-  -- the packet of n, and with other marks
+  -- packet n, before and after it is marked
   abbrev old : Sent
   old = sentIn sent (n % ceiling)
 

@@ -1,4 +1,4 @@
--- What drive's loops need of the stored packets is what 01's rules give: records whose end keeps the rules are `AllSentBounds`.
+-- 01's rules give what drive's loops need of the stored packets: if the end obeys the rules, the records satisfy `AllSentBounds`.
 use Prim.Native.Nat.{ℕ, _%_, _^_, _≤_, _<_}
 use native.Mathlib.Omega.{arith}
 use mathlib.Core.Path.{_≡_, refl, _∙_, ap}
@@ -18,7 +18,7 @@ use Rattle.records.proofs.SeenOutgoing.{get-outgoing}
 use Rattle.drive_lost.specs.Packets.{AllSentBounds}
 use Rattle.drive_lost.proofs.Remark.{untimed}
 
--- "neither a time sent .. is past the last clock, which is below 2^60"; without one it is 0
+-- "neither a time sent .. is past the last clock, which is below 2^60"; a packet without a time sent has 0
 early : (p : Sent) → (p .timed ≡ false → p .«sent_at» .0 ≡ 0) → (last : ℕ) → last < 2 ^ 60 → ((t : ℕ) → marksOf p .sent ≡ some t → t ≤ last) → p .«sent_at» .0 < 2 ^ 60
 early p zero last fits h = go (p .timed) refl
   where

@@ -1,5 +1,5 @@
--- The pass of a due timer over the records (`Going`): what the model's loop does from number n on is what it does from the first, each turn
--- being one turn of it. A packet that is not there or waits is passed, one without a transmit left ends the pass, any other is marked lost.
+-- The pass of a due timer over the records. Invariant (`Going`): the model's loop from number n on gives the result of the whole loop. Each
+-- turn is one turn of the model: a missing or waiting packet is skipped, one with no transmits left ends the pass, others are marked lost.
 use Prim.Native.Nat.{ℕ, suc, _+_, _-_, _%_, _^_, _≤_, _<_}
 use native.Mathlib.Numerals.{add-one}
 use native.Mathlib.Omega.{arith}
@@ -38,9 +38,9 @@ stopped : (k n : ℕ) (e : model.End) → timeOutNumber n e ≡ record { failed 
 unfolding timeOutLoop
 stopped k n e h = ap (λ (t : drive.Passed). cond (t .failed) t (timeOutLoop k (suc n) (t .end))) h
 
--- one number of what is seen
+-- one number, on what is seen
 
--- an end with the sender that is seen
+-- an end with what is seen of the sender
 abbrev seenOf : Sender → List ℕ → Bytes → model.End → model.End
 seenOf s sent outgoing e = model.withSender (seenSender s sent outgoing) e
 
@@ -64,7 +64,7 @@ module _ (s : Sender) (sent : List ℕ) (n : ℕ) (low : s .«remote_acked» ≤
       ap (λ (o : Option model.Packet). on o (record { failed = false; end = end }) (λ p. timeOutPacket n p end))
       (get-outgoing (s .«remote_acked») (s .seq) sent outgoing n low high)
 
-  -- it is not there, or waits
+  -- it is missing, or waiting
   passed : (isStored here n && not (here .waiting)) ≡ false → timeOutNumber n end ≡ record { failed = false; end = end }
   unfolding timeOutPacket
   passed h = number-is ∙ go (isStored here n) (here .waiting) refl h
@@ -82,7 +82,7 @@ module _ (s : Sender) (sent : List ℕ) (n : ℕ) (low : s .«remote_acked» ≤
         number-is ∙ ap at there
         ∙ ap₂ (λ (w z : Bool). cond w (record { failed = false; end = end }) (cond z (record { failed = true; end = end }) (record { failed = false; end = lost n (packetOf outgoing (n % ceiling) here) end }))) sent-on h
 
-    -- it has no transmit left
+    -- it has no transmits left
     fails : 5 < here .transmits → timeOutNumber n end ≡ record { failed = true; end = end }
     fails h = choice true (lt-ltb 5 (here .transmits) h)
 
@@ -103,7 +103,7 @@ pub starts : (s : Sender) (sent : List ℕ) → AllSentBounds s sent → length 
 starts s sent stored long = record { long = long; low = omega arith; stored = stored; same = λ outgoing e. refl }
 
 module _ {s : Sender} {sent₀ sent : List ℕ} {inflight n : ℕ} (g : Going s sent₀ sent inflight n) where
-  -- what is left is nothing
+  -- the model's loop does nothing more
   over : (failed : Bool)
       → ((outgoing : Bytes) (e : model.End)
       → record { failed = failed; end = seenOf (withInflight inflight s) sent outgoing e } ≡ timeOutLoop (s .seq - n) n (seenOf (withInflight inflight s) sent outgoing e))
@@ -126,7 +126,7 @@ module _ {s : Sender} {sent₀ sent : List ℕ} {inflight n : ℕ} (g : Going s 
     abbrev packet : Sent
     packet = sentIn sent (n % ceiling)
 
-    -- one turn of the model's loop, that of number n
+    -- the model's turn for number n
     one : (e e′ : model.End) → timeOutNumber n e ≡ record { failed = false; end = e′ } → timeOutLoop (s .seq - (n + 1)) (n + 1) e′ ≡ timeOutLoop (s .seq - n) n e
     one e e′ h =
         let k : s .seq - n ≡ suc (s .seq - (n + 1)) = omega arith in
@@ -185,7 +185,7 @@ module _ {s : Sender} {sent₀ sent : List ℕ} {inflight n : ℕ} (g : Going s 
                   ∙ g .same outgoing e;
             }
 
--- the same of what the code read and made: p is the packet of n, q the one that it put
+-- the same for the code's values: p is the packet read at n, q the one written
 pub leaves-again : {s : Sender} {sent₀ sent : List ℕ} {inflight n : ℕ} → Going s sent₀ sent inflight n → n < s .seq → n < 2 ^ 32 → (p q : Sent)
     → p ≡ sentIn sent (n % ceiling) → (isStored p n && not (p .waiting)) ≡ true → p .transmits ≤ 5 → q ≡ lostPacket p
     → (sent′ : List ℕ) → sent′ ≡ withSent sent (q .number) q → (inflight′ : ℕ) → inflight′ ≡ inflight - p .length → Going s sent₀ sent′ inflight′ (n + 1)

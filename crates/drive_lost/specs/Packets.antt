@@ -1,4 +1,4 @@
--- The stored packets as drive's loops meet them: what 01's rules say of each, and a stream whose sender or words are replaced.
+-- The stored packets that drive's loops read: what 01's rules say of each, and a sender or stream with one part replaced.
 use Prim.Native.Nat.{ℕ, _%_, _^_, _≤_, _<_}
 use mathlib.Core.Path.{_≡_}
 use mathlib.Core.List.{List}
@@ -16,7 +16,7 @@ pub record SentBounds (p : Sent) : Type 0 where
   pub short : p .length ≤ 1_400
   pub early : p .«sent_at» .0 < 2 ^ 60
 
--- the same of every stored packet, from remote acked to below seq
+-- the same for every stored packet, from remote acked to below seq
 abbrev pub AllSentBounds : Sender → List ℕ → Type 0
 AllSentBounds s sent = (n : ℕ) → s .«remote_acked» ≤ n → n < s .seq → isStored (sentIn sent (n % ceiling)) n ≡ true → SentBounds (sentIn sent (n % ceiling))
 

@@ -1,4 +1,4 @@
--- What a due timer does to the stored packets of the records: the model's loop on what is seen.
+-- What a due timer does to the stored packets of the records: it agrees with the model's loop on what is seen.
 use Prim.Native.Nat.{ℕ, _+_, _-_}
 use mathlib.Core.Path.{_≡_}
 use mathlib.Core.List.{List}
@@ -21,11 +21,11 @@ lostPacket p =
 -- 01, call 4: "each stored packet not waiting, ascending, fails with TimedOut if transmits exceeds 5, else gains a transmit, waits and
 -- leaves inflight" (the loop of poll_check_timeouts)
 pub record TimesOutPackets (s : Sender) (sent : List ℕ) (r : Passed) (sent′ : List ℕ) : Type 0 where
-  -- for any stream with this sender and these words: whether one failed, and the end, are the model's
+  -- for any stream with this sender and these words, the end and whether a packet failed are the model's
   pub end : (st : Stream) (t : Totals) (l : Lent)
       → record { failed = r .failed; end = seen (withSender (r .sender) st) t (withWords sent′ l) }
       ≡ drive.timeOutLoop (s .seq - s .«remote_acked») (s .«remote_acked») (seen (withSender s st) t (withWords sent l))
-  -- inflight alone differs
+  -- only inflight differs
   pub numbers : r .sender ≡ withInflight (r .sender .inflight) s
-  -- the stored packets keep the rules that they are read by
+  -- the stored packets stay within their bounds
   pub stored : AllSentBounds (r .sender) sent′

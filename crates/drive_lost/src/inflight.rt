@@ -1,4 +1,4 @@
-// The bytes of the stored packets that do not wait.
+// Inflight: the bytes of the stored packets that are not waiting.
 ghost use mathlib.Core.Path.{_≡_};
 ghost use Rattle.drive_lost.specs.Packets.{withInflight};
 use records::Sender;

@@ -14,11 +14,11 @@ use records::word_count;
 
 pub struct Passed {
     pub sender: Sender,
-    // A packet has no transmit left.
+    // A packet had no transmits left.
     pub failed: bool,
 }
 
-// It is packet n, and does not wait: it counts as inflight.
+// Whether p is packet n and not waiting, so that it counts as inflight.
 fn in_flight(p: Sent, n: u32) -> bool
     ensures { λ r. ⌜ r ≡ (isStored p n && not (p .waiting)) ⌝ }
 {
@@ -29,7 +29,7 @@ fn in_flight(p: Sent, n: u32) -> bool
     }
 }
 
-// One transmit more, and it waits.
+// The packet, waiting, with one more transmit.
 fn lost_packet(p: Sent) -> Sent
     requires { ⌜ p .transmits ≤ 5 ⌝ }
     ensures { λ r. ⌜ r ≡ lostPacket p ⌝ }
@@ -45,8 +45,8 @@ fn lost_packet(p: Sent) -> Sent
     }
 }
 
-// The stored packets that do not wait, ascending: each gains a transmit, waits and leaves inflight, up to the first that has no transmit
-// left. Those before it keep their marks.
+// Marks the stored packets that are not waiting, ascending: each gains a transmit, waits and leaves inflight, up to the first that has no
+// transmits left. Packets marked before it stay marked.
 pub fn time_out_packets(s: Sender, sent: &mut [u64; 64]) -> Passed
     requires { ⌜ AllSentBounds s (now sent) ⌝ }
     ensures { λ r. ⌜ TimesOutPackets s (now (sent .entry)) r (now (sent .exit)) ⌝ }

@@ -1,5 +1,5 @@
--- All numbers up to the largest ack are settled: what the model still settles from here on gives what it settles from the start. The
--- packets that stay are those that were stored, so they keep their rules.
+-- Settling all numbers up to the largest ack. Invariant: what the model still has to settle gives its whole result. The packets that stay
+-- were stored before, so they are still within their bounds.
 use Prim.Native.Nat.{ℕ, zero, suc, _+_, _-_, _%_, _^_, _≤_, _<_}
 use native.Mathlib.Omega.{arith}
 use mathlib.Core.Path.{_≡_, refl, ap, sym, subst, _∙_}
@@ -83,7 +83,7 @@ module _ {clock to : ℕ} {a₀ : Acks} {sent₀ : List ℕ} {a : Acks} {sent : 
         range = g .range;
       }
 
--- the numbers that are left fall
+-- the count of numbers left falls
 pub falls : {clock to : ℕ} {a : Acks} {sent : List ℕ} {r : Acks} {sent′ : List ℕ} → a .sender .«remote_acked» < to → SettlesOne clock a sent r sent′
     → to - r .sender .«remote_acked» < to - a .sender .«remote_acked»
 falls less x = omega (arith, x .moved)
@@ -98,7 +98,7 @@ settle-cases clock (suc k) e m p long z =
     let n = e .sender .remoteAcked in
     ack-cases clock n e m p long (settle-cases clock k (drive.settleOne clock e) m p (one-length clock n e long) z) .1
 
--- a packet whose length and time sent are another's
+-- a packet with the same time sent as another has the same bound on it
 time-within : (p q : Sent) → (q .timed ≡ false → q .«sent_at» .0 ≡ 0) → marksOf p .sent ≡ marksOf q .sent → p .«sent_at» .0 < 2 ^ 60 → q .«sent_at» .0 < 2 ^ 60
 time-within p q unset same early = go (p .timed) (q .timed) refl same
   where
@@ -144,7 +144,7 @@ module _ (s : Sender) (sent : List ℕ) (r : Sender) (sent′ : List ℕ) (seq :
           }
       go false e = absurd (no-some (ap (λ (b : Bool). cond b (some (packetOf [] (m % ceiling) old)) none) e) is-old)
 
--- the deadline after them
+-- the deadline afterwards
 
 rto-stays : (clock : ℕ) (b : Bool) (t : model.Timing) → (drive.restarted clock b t) .rtt ≡ t .rtt
 unfolding drive.restarted
@@ -152,7 +152,7 @@ rto-stays clock true t = refl
 rto-stays clock false t = refl
 
 module _ (s : Stream) (t : Totals) (clock : ℕ) (sent : List ℕ) where
-  -- the numbers that are settled
+  -- the numbers before settling
   abbrev pub acksOf : Acks
   acksOf = record { sender = s .sender; rtt = s .timing .rtt; totals = t }
 
@@ -160,7 +160,7 @@ module _ (s : Stream) (t : Totals) (clock : ℕ) (sent : List ℕ) where
     abbrev moves : Bool
     moves = ltb (s .sender .«remote_acked») (s .sender .«largest_ack»)
 
-    -- settling, but for the numbers
+    -- what settling does after the loop
     abbrev timed : model.End → model.End
     timed e = model.withTiming (drive.restarted clock moves (e .timing)) (model.withSender (drive.noAck (e .sender)) e)
 

@@ -1,5 +1,4 @@
--- The lowest number is settled: its packet leaves where it is stored, as acking has it, and since it is not stored then, what is seen from
--- the next number on is the same store.
+-- Settling the lowest number: it is acked, so its packet is no longer stored, and what is seen from the next number on is the same store.
 use Prim.Native.Nat.{ℕ, suc, _+_, _≤_, _<_}
 use native.Mathlib.Numerals.{add-one}
 use native.Mathlib.Omega.{arith}
@@ -23,7 +22,7 @@ use Rattle.deliver_acks.specs.declared.Acks.{Acks}
 use Rattle.deliver_acks.specs.Acked.{InWindow, withAcks, AcksOne}
 use Rattle.drive_settle.specs.Settling.{pastOne, SettlesOne}
 
--- what is stored after an acknowledged number was stored before, under another number
+-- a packet stored after n is acked was stored before, and is not n
 pub ack-cases : (clock n : ℕ) (e : model.End) (m : ℕ) (p : model.Packet) → length (e .sender .outgoing) ≡ ceiling
     → get ((ackNumber clock n e) .sender .outgoing) m ≡ some p → (m ≢ n) × (get (e .sender .outgoing) m ≡ some p)
 unfolding ackNumber
@@ -34,7 +33,7 @@ ack-cases clock n e m p long = go (get (e .sender .outgoing) n) refl
     go none is z = (λ same. no-some is (ap (get (e .sender .outgoing)) (sym same) ∙ z), z)
     go (some q) is z = remove-cases (e .sender .outgoing) n m p long z
 
--- it is not stored any more
+-- n is no longer stored
 ack-gone : (clock n : ℕ) (e : model.End) → length (e .sender .outgoing) ≡ ceiling → get ((ackNumber clock n e) .sender .outgoing) n ≡ none
 ack-gone clock n e long = go (get ((ackNumber clock n e) .sender .outgoing) n) refl
   where

@@ -1,4 +1,4 @@
--- Settling on the records: one number, all of them, and the deadline after them, as the model on what is seen.
+-- Settling on the records: one number, all of them, and the deadline afterwards. Each agrees with the model on what is seen.
 use Prim.Native.Nat.{ℕ, _+_, _-_, _^_, _≤_, _<_}
 use mathlib.Core.Path.{_≡_}
 use mathlib.Core.List.{List}
@@ -22,7 +22,7 @@ abbrev pub pastOne : Sender → Sender
 pastOne s =
     record { seq = s .seq; «remote_acked» = s .«remote_acked» + 1; «largest_ack» = s .«largest_ack»; inflight = s .inflight; cwnd = s .cwnd }
 
--- the largest ack since this drive
+-- resets the largest ack
 abbrev pub noAckSender : Sender → Sender
 noAckSender s = record { seq = s .seq; «remote_acked» = s .«remote_acked»; «largest_ack» = 0; inflight = s .inflight; cwnd = s .cwnd }
 
@@ -34,7 +34,7 @@ pub record SettlesOne (clock : ℕ) (a : Acks) (sent : List ℕ) (r : Acks) (sen
   pub moved : r .sender .«remote_acked» ≡ a .sender .«remote_acked» + 1
   pub range : InRange (r .rtt)
 
--- what 01's rules give of the numbers to settle
+-- guaranteed by 01's rules for the numbers to settle
 pub record Settleable (s : Sender) (to : ℕ) : Type 0 where
   pub high : to ≤ s .seq
   pub width : s .seq ≤ s .«remote_acked» + 32
@@ -48,7 +48,7 @@ pub record Settles (clock to : ℕ) (a : Acks) (sent : List ℕ) (r : Acks) (sen
   pub moved : a .sender .«remote_acked» ≤ r .sender .«remote_acked»
   pub range : InRange (r .rtt)
 
--- a stream with another sender and timing
+-- the stream with another sender and timing
 abbrev pub withTimed : Sender → Timing → Stream → Stream
 withTimed x t s =
     record {
@@ -69,7 +69,7 @@ pub record Restarts (s : Stream) (clock : ℕ) (a : Acks) (r : Polled) : Type 0 
   pub totals : r .totals ≡ a .totals
   pub others : r .stream ≡ withTimed (r .stream .sender) (r .stream .timing) s
 
--- what 01's rules and refusal 4 give
+-- guaranteed by 01's rules and refusal 4
 pub record Acked (s : Stream) (clock : ℕ) : Type 0 where
   pub range : InRange (s .timing .rtt)
   pub early : clock < 2 ^ 60
@@ -83,5 +83,5 @@ pub record Settled (s : Stream) (t : Totals) (clock : ℕ) (sent : List ℕ) (r 
   pub seq : r .stream .sender .seq ≡ s .sender .seq
   pub moved : s .sender .«remote_acked» ≤ r .stream .sender .«remote_acked»
   pub range : InRange (r .stream .timing .rtt)
-  -- the packets that stay keep the rules that they are read by
+  -- the packets that stay are still within their bounds
   pub stored : AllSentBounds (s .sender) sent → AllSentBounds (r .stream .sender) sent′

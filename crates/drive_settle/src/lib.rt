@@ -11,7 +11,7 @@ use records::Timing;
 use records::Totals;
 use rtt::Nanos;
 
-// The numbers after a part of a drive.
+// The stream and totals after one part of a drive.
 pub struct Polled {
     pub stream: Stream,
     pub totals: Totals,
@@ -31,7 +31,7 @@ fn past_one(s: Sender) -> Sender
     }
 }
 
-// The lowest number leaves, where it is stored, and is settled.
+// Settles the lowest number: its packet leaves if it is stored, and remote acked moves past it.
 fn settle_one(a: Acks, clock: Nanos, sent: &mut [u64; 64]) -> Acks
     requires { ⌜ Timed a (clock .0) × InWindow (a .sender) (a .sender .«remote_acked») ⌝ }
     ensures { λ r. ⌜ SettlesOne (clock .0) a (now (sent .entry)) r (now (sent .exit)) ⌝ }
@@ -49,7 +49,7 @@ fn settle_one(a: Acks, clock: Nanos, sent: &mut [u64; 64]) -> Acks
     }
 }
 
-// The numbers from remote acked to below `to`, ascending.
+// Settles the numbers from remote acked to below `to`, ascending.
 fn settle_numbers(a: Acks, clock: Nanos, sent: &mut [u64; 64], to: u32) -> Acks
     requires { ⌜ Timed a (clock .0) × Settleable (a .sender) to ⌝ }
     ensures { λ r. ⌜ Settles (clock .0) to a (now (sent .entry)) r (now (sent .exit)) ⌝ }
@@ -61,7 +61,7 @@ fn settle_numbers(a: Acks, clock: Nanos, sent: &mut [u64; 64], to: u32) -> Acks
     b
 }
 
-// The largest ack since this drive.
+// Resets the largest ack.
 fn no_ack(s: Sender) -> Sender
     ensures { λ r. ⌜ r ≡ noAckSender s ⌝ }
 {
@@ -74,7 +74,7 @@ fn no_ack(s: Sender) -> Sender
     }
 }
 
-// "and if it moved, deadline = now + rto": the rto after the samples.
+// "and if it moved, deadline = now + rto", with the rto after the samples.
 fn restart(s: Stream, clock: Nanos, a: Acks) -> Polled
     requires { ⌜ InRange (a .rtt) × (clock .0 < 2 ^ 60) ⌝ }
     ensures { λ r. ⌜ Restarts s (clock .0) a r ⌝ }

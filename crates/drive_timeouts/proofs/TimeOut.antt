@@ -1,5 +1,5 @@
--- The check of timeouts on the records is the model's on what is seen: the timer's own laws for a due one, that of `terminate` where a
--- packet failed, and nothing where the timer is not due.
+-- The timeout check on the records agrees with the model's on what is seen: by the timer's laws if it is due, and by that of `terminate`
+-- if a packet failed. If the timer is not due, nothing changes.
 use Prim.Native.Nat.{ℕ, _+_, _-_, _≤_, _<_}
 use native.Mathlib.Omega.{arith}
 use mathlib.Core.Path.{_≡_, refl, ap, ap₂, sym, subst, _∙_}
@@ -105,7 +105,7 @@ module _ (s : Stream) (t : Totals) (clock : ℕ) (sent queue : List ℕ) (header
       }
 
   module _ (is : IsDue (s .timing) clock (s .sender) true) {lost : Lost} {sent′ : List ℕ} (x : Loses s clock sent lost sent′) where
-    -- what is left of the check after the pass
+    -- the rest of the check, after the pass
     due-seen : (l : Lent)
         → drive.timeOutEnd (record { failed = lost .failed; end = seen (lost .stream) t (withPolled sent′ queue headers l) })
         ≡ drive.checkTimeouts clock (seen s t (withPolled sent queue headers l))
@@ -128,7 +128,7 @@ module _ (s : Stream) (t : Totals) (clock : ℕ) (sent queue : List ℕ) (header
           more = subst (λ (q : Queue). OneMoreEntry (s .queue) queue q queue headers) (sym (queue-same x)) (no-more (s .queue) queue headers whole);
         }
 
-    -- one failed
+    -- a packet failed
     pub checks-failed : lost .failed ≡ true → {r : Polled} {queue′ : List ℕ} {headers′ : Bytes} → TimesOutStream (lost .stream) t queue headers r queue′ headers′
         → Checked s t clock sent queue headers r sent′ queue′ headers′
     checks-failed fails {r} {queue′} {headers′} y =

@@ -1,5 +1,5 @@
--- Timeouts on the records: the packets that a due timer considers lost, the stream that ends by TimedOut, and the whole check, as the model
--- on what is seen.
+-- Timeouts on the records: the packets that a due timer considers lost, the stream that ends by TimedOut, and the whole check. Each agrees
+-- with the model on what is seen.
 use Prim.Native.Nat.{ℕ, _+_, _-_, _*_, _^_, _≤_, _<_}
 use mathlib.Core.Path.{_≡_}
 use mathlib.Core.List.{List}
@@ -20,7 +20,7 @@ use Rattle.drive_settle.specs.declared.Polled.{Polled}
 use Rattle.drive_timeouts.specs.declared.Lost.{Lost}
 use Rattle.drive_settle.specs.Settling.{withTimed}
 
--- what 01's rules and refusal 4 give
+-- guaranteed by 01's rules and refusal 4
 pub record Losable (s : Stream) (clock : ℕ) (sent : List ℕ) : Type 0 where
   pub rto : s .timing .rtt .rto .0 ≤ 5 * 2 ^ 60
   pub early : clock < 2 ^ 60
@@ -37,7 +37,7 @@ pub record Loses (s : Stream) (clock : ℕ) (sent : List ℕ) (r : Lost) (sent�
   pub acked : r .stream .sender .«remote_acked» ≡ s .sender .«remote_acked»
   pub stored : AllSentBounds (r .stream .sender) sent′
 
--- one entry more at most, and the queue stays as it is laid out
+-- at most one more entry, and the queue stays laid out
 pub record OneMoreEntry (q : Queue) (queue : List ℕ) (q′ : Queue) (queue′ : List ℕ) (headers′ : Bytes) : Type 0 where
   pub left : q′ .left ≡ q .left
   pub count : q′ .count ≤ q .count + 1
@@ -51,7 +51,7 @@ pub record TimesOutStream (s : Stream) (t : Totals) (queue : List ℕ) (headers 
   pub others : r .stream ≡ withQueue (r .stream .queue) (withEnding (r .stream .ending) s)
   pub more : OneMoreEntry (s .queue) queue (r .stream .queue) queue′ headers′
 
--- what the whole check needs: a place for the state packet too
+-- what the whole check needs: also room for the state packet
 pub record Checkable (s : Stream) (clock : ℕ) (sent : List ℕ) (headers : Bytes) : Type 0 where
   pub losable : Losable s clock sent
   pub able : Pushable (s .queue) (length headers)

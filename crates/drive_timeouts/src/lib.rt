@@ -1,5 +1,5 @@
-// Timeouts (poll_check_timeouts): a due timer backs off, halves the window and considers the packets lost; one without a transmit left
-// ends the stream.
+// Timeouts (poll_check_timeouts): a due timer backs off, halves the window and considers the packets lost; a packet with no transmits
+// left ends the stream.
 ghost use Rattle.close_state.specs.State.{Pushable};
 ghost use Rattle.drive_timeouts.specs.Timeouts.{Losable, Loses, TimesOutStream, Checkable, Checked};
 ghost use lib.ListN.{length};
@@ -11,7 +11,7 @@ use rtt::Nanos;
 
 pub struct Lost {
     pub stream: Stream,
-    // A packet has no transmit left.
+    // A packet had no transmits left.
     pub failed: bool,
 }
 

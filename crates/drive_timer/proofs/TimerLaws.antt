@@ -1,5 +1,5 @@
--- The timer on the records is the model's on what is seen: the numbers that its test compares are the records' own, of the sender the window
--- alone is another, and of the timing the deadline.
+-- The timer on the records agrees with the model's on what is seen: its test compares the records' own numbers, and only the sender's
+-- window and the timing's deadline change.
 use Prim.Native.Nat.{ℕ, _+_, _≤_, _<_}
 use mathlib.Core.Path.{_≡_, refl, ap}
 use mathlib.Core.Bool.{Bool, true, false, cond, _&&_, not}

@@ -12,14 +12,14 @@ use Rattle.records.specs.declared.Stream.{Stream}
 use Rattle.records.specs.declared.Totals.{Totals}
 use Rattle.records.specs.Seen.{Lent, seen, seenSender}
 
--- the timing that is seen, as in `seen`
+-- what is seen of the timing, as in `seen`
 abbrev pub timingSeen : Timing → model.Timing
 timingSeen t = record { rtt = t .rtt; deadline = t .deadline .0 .0 }
 
 abbrev pub withDeadline : ℕ → model.Timing → model.Timing
 withDeadline at t = record { rtt = t .rtt; deadline = at }
 
--- 01, call 4: "if deadline is at most now and remote acked differs from seq", of any stream with this timing and this sender
+-- 01, call 4: "if deadline is at most now and remote acked differs from seq", for any stream with this timing and this sender
 pub record IsDue (t : Timing) (clock : ℕ) (s : Sender) (r : Bool) : Type 0 where
   pub test : (st : Stream) (totals : Totals) (l : Lent) → st .timing ≡ t → st .sender ≡ s → r ≡ drive.due clock (seen st totals l)
 

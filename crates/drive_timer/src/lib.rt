@@ -29,7 +29,7 @@ fn with_deadline(t: Timing, at: Nanos) -> Timing
     Timing { rtt, deadline }
 }
 
-// A timer that was due: the next deadline is twice the rto away.
+// Backs off a due timer: the next deadline is twice the rto away.
 pub fn backed_off(t: Timing, clock: Nanos) -> Timing
     requires { ⌜ (t .rtt .rto .0 ≤ 5 * 2 ^ 60) × (clock .0 < 2 ^ 60) ⌝ }
     ensures { λ r. ⌜ timingSeen r ≡ model.backedOff (clock .0) (timingSeen t) ⌝ }
@@ -38,14 +38,13 @@ pub fn backed_off(t: Timing, clock: Nanos) -> Timing
     with_deadline(t, Nanos(at))
 }
 
-// One of two instants.
 fn pick(t: bool, a: Nanos, b: Nanos) -> Nanos
     ensures { λ r. ⌜ r ≡ cond t a b ⌝ }
 {
     if t { a } else { b }
 }
 
-// After settling: where remote acked moved, the deadline is the rto away.
+// After settling: if remote acked moved, the deadline is one rto away.
 pub fn restarted(t: Timing, clock: Nanos, moved: bool) -> Timing
     requires { ⌜ (t .rtt .rto .0 ≤ 5 * 2 ^ 60) × (clock .0 < 2 ^ 60) ⌝ }
     ensures { λ r. ⌜ timingSeen r ≡ model.restarted (clock .0) moved (timingSeen t) ⌝ }
@@ -55,7 +54,7 @@ pub fn restarted(t: Timing, clock: Nanos, moved: bool) -> Timing
     with_deadline(t, pick(moved, next, old))
 }
 
-// The sender with the window of a due timeout.
+// The sender with its window halved by a due timeout.
 pub fn shrunk(s: Sender) -> Sender
     ensures { λ r. ⌜ Shrinks s r ⌝ }
 {

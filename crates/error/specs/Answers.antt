@@ -27,7 +27,7 @@ numberOf refusal.UnexpectedEof = 15
 numberOf refusal.TimedOut = 16
 numberOf refusal.SeqExhausted = 17
 
--- 01, 14 to 16: "Write or read meets ConnectionReset" (UnexpectedEof, TimedOut); without an error the call answers by itself.
+-- 01, 14 to 16: "Write or read meets ConnectionReset" (UnexpectedEof, TimedOut); without an error, the call's own answer.
 abbrev pub errorOr : UdxError → Outcome → Outcome
 errorOr error.None otherwise = otherwise
 errorOr error.ConnectionReset otherwise = Refused refusal.ConnectionReset

@@ -13,7 +13,7 @@ pub enum UdxError {
 
 // 01's refusals, in checking order.
 pub enum Refusal {
-    // A store of another length, or a rule of the records broken.
+    // A store has the wrong length, or a rule of the records is broken.
     BrokenRecords,
     // Encode with under 20 bytes, take with under 14,000.
     ShortBuffer,
@@ -31,23 +31,23 @@ pub enum Refusal {
     OtherStream,
     // A payload of more than 1,380 bytes.
     LongPayload,
-    // A header that acknowledges what was never sent.
+    // A header that acknowledges a packet that was never sent.
     AckPastSeq,
-    // DATA with the number that no packet has.
+    // DATA with the one number that no packet may have.
     SeqEnd,
     // DATA past the slots of the incoming store.
     PastIncoming,
-    // The queue has no place for the state packets that may follow.
+    // The queue has no room for the state packets that may follow.
     StateQueueFull,
     // Write or read meets the stream's error.
     ConnectionReset,
     UnexpectedEof,
     TimedOut,
-    // A write with no number left.
+    // A write when the sequence numbers are used up.
     SeqExhausted,
 }
 
-// What a call answers, beside the count of bytes accepted, taken or put.
+// The outcome of a call, beside the count of bytes accepted, taken or put.
 pub enum Outcome {
     Ready,
     Waiting,
@@ -81,7 +81,7 @@ pub fn number(why: Refusal) -> u8
     }
 }
 
-// The stream's error as a write or a read answers it, or what they answer without one.
+// The refusal for the stream's error, or `otherwise` if it has none.
 pub fn error_or(error: UdxError, otherwise: Outcome) -> Outcome
     ensures { λ r. ⌜ r ≡ errorOr error otherwise ⌝ }
 {
@@ -93,13 +93,13 @@ pub fn error_or(error: UdxError, otherwise: Outcome) -> Outcome
     }
 }
 
-// What the refusals of a call say before it acts.
+// The result of checking a call's refusals before it acts.
 pub enum Verdict {
     Clear,
     Refused(Refusal),
 }
 
-// One line of a list of refusals: this one where it applies, else what the later ones say.
+// One line of a list of refusals: this one if it applies, else the verdict of the later ones.
 pub fn refuse_if(applies: bool, why: Refusal, later: Verdict) -> Verdict
     ensures { λ r. ⌜ r ≡ cond applies (Verdict.Refused why) later ⌝ }
 {

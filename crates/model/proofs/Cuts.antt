@@ -1,4 +1,4 @@
--- Joining datagrams of one length and cutting the bytes again gives the datagrams back.
+-- Joining datagrams of equal length and cutting the bytes again gives the datagrams back.
 use Prim.Native.Nat.{ℕ, zero, suc, _≤_, _<_, zero-le}
 use native.Mathlib.Omega.{arith}
 use mathlib.Core.Path.{_≡_, refl, ap, ap₂, _∙_}

@@ -1,4 +1,4 @@
--- The examples of specs/Examples.antt, computed: every definition on their way is opened.
+-- The examples of specs/Examples.antt, computed: every definition that they use is unfolded.
 use mathlib.Core.Path.{refl}
 use Rattle.packet.specs.Header.{headerBytes}
 use Rattle.packet.specs.Blocks.{blocksIn}

@@ -1,4 +1,4 @@
--- A call is refused or acts: one case split for every call, and what a test that did not refuse says.
+-- A call is refused or acts: one case split for every call, and what follows when a test did not refuse.
 use Prim.Native.Nat.{ℕ, zero, suc, _^_, _≤_, _<_}
 use mathlib.Core.Path.{_≡_, refl, sym}
 use mathlib.Core.List.{List, [], _∷_}

@@ -1,4 +1,4 @@
--- Lists: what holds of every element, joined sequences, and a value picked by a test.
+-- Laws of lists: properties of every element, joined sequences, and a value picked by a test.
 use Prim.Native.Nat.{ℕ, suc, _≤_, _<_}
 use native.Mathlib.Omega.{arith}
 use mathlib.Core.Path.{_≡_, refl, sym, ap, _∙_, subst}
@@ -9,7 +9,7 @@ use lib.ListN.{length, take, drop, getD, take-append-drop}
 use lib.Seq.{take-suc}
 use Rattle.model.specs.Lists.{Bytes, joined, isEmpty}
 
--- all elements of a list
+-- P holds for every element
 abbrev pub All : {A : Type 0} → (A → Type 0) → List A → Type 0
 All P [] = Unit {0}
 All P (x ∷ xs) = P x × All P xs
@@ -39,7 +39,7 @@ pub not-empty : {A : Type 0} (xs : List A) → 1 ≤ length xs → isEmpty xs �
 not-empty [] l = absurd (omega arith)
 not-empty (x ∷ xs) l = refl
 
--- a test decides
+-- a case split on a test
 pub by-test {ℓ} : {A : Type 0} (Q : A → Type ℓ) (b : Bool) (x y : A) → (b ≡ true → Q x) → (b ≡ false → Q y) → Q (cond b x y)
 by-test Q true x y f g = f refl
 by-test Q false x y f g = g refl

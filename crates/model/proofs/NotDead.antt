@@ -1,6 +1,6 @@
--- No dead stream, over every end: the proof of `NotDead`. The tests of a call fail by the facts that let it go; what a drive keeps queued
--- and stored goes through its loops by one induction a loop; flushing goes up from the lowest number and stops only at a packet that does
--- not fit. None of it uses the invariant of calls from a fresh stream.
+-- The proof of `NotDead`, for every end. The facts about an accepted call make its tests fail; what a drive keeps queued and stored goes
+-- through its loops, with one induction per loop; flushing goes up from the lowest number and stops only at a packet that does not fit.
+-- None of it uses the invariant of calls from a fresh stream.
 use Prim.Native.Nat.{ℕ, zero, suc, _+_, _-_, _%_, _^_, _≤_, _<_, min}
 use native.Mathlib.Decide.{ℕ-discrete}
 use native.Mathlib.Omega.{arith}
@@ -107,7 +107,7 @@ drive-clear : (clock : ℕ) (e : End) → NotDead.Drivable clock e → driveRefu
 unfolding driveRefusal
 drive-clear clock e k = rw (k .rules-hold, clock-good clock (e .clocks .last) (k .clock-fits) (k .clock-next), k .not-ended, k .none-left) refl
 
--- a drive that was not refused keeps the rules
+-- an end whose drive is not refused keeps the rules
 driven-rules : (clock : ℕ) (e : End) → driveRefusal clock e ≡ none → rules e ≡ true
 unfolding driveRefusal
 driven-rules clock e z = not-false (rules e) (clear (driveTests clock e) z 0)
@@ -151,7 +151,7 @@ none-in s (suc k) n z m a b = go (get s n) refl z (λ y. none-in s k (suc n) y m
         by (yes d) = ap (get s) (sym d) ∙ e
         by (no d) = rec z (omega arith) (omega arith)
 
--- stored numbers lie from remote acked to below seq
+-- stored numbers are from remote acked to below seq
 abbrev Ranged : End → Type 0
 Ranged e = (n : ℕ) (p : Packet) → get (e .sender .outgoing) n ≡ some p → (e .sender .remoteAcked ≤ n) × (n < e .sender .seq)
 
@@ -205,7 +205,7 @@ none-left room e =
     Q : Answer → Type 0
     Q a = a .outcome ≡ Nothing → e .queue .left ≡ 0
 
--- taking entries changes their packets and the queue alone
+-- taking entries changes only their packets and the queue
 module _ {A : Type 0} (f : End → A) (marked : (n : ℕ) (p : Packet) (e : End) → f (withSender (remarked n (e .sender .inflight) (takenMarks (e .clocks .drive)) p (e .sender)) e) ≡ f e) (popped : (q : List Entry) (e : End) → f (withEntries q e) ≡ f e) where
   taken-same : (k : ℕ) (q : List Entry) (e : End) → f ((takeLoop k q e) .end) ≡ f e
   unfolding takeLoop takeEntry
@@ -369,7 +369,7 @@ all-left : (clock : ℕ) (e : End) → (drive clock e) .outcome ≡ Ready → (d
 unfolding pollDrive
 all-left clock e z = subst (λ (x : End). x .queue .left ≡ length (x .queue .entries)) (sym (polled clock e z .1)) refl
 
--- what waits
+-- waiting packets
 
 -- a full store whose numbers are in range, with this seq
 abbrev InRange : ℕ → End → Type 0
@@ -431,7 +431,7 @@ within-timeouts seq clock e h =
 abbrev WaitsFrom : ℕ → End → Type 0
 WaitsFrom m e = (n : ℕ) (p : Packet) → get (e .sender .outgoing) n ≡ some p → p .marks .waiting ≡ true → m ≤ n
 
--- one number further, where the one at m does not wait
+-- one number further, if the packet at m does not wait
 from-next : (m : ℕ) (s : Slots Packet) → ((n : ℕ) (p : Packet) → get s n ≡ some p → p .marks .waiting ≡ true → m ≤ n)
     → ((p : Packet) → get s m ≡ some p → p .marks .waiting ≡ true → ⊥) → (n : ℕ) (p : Packet) → get s n ≡ some p → p .marks .waiting ≡ true → suc m ≤ n
 from-next m s h no-wait n p g w = go (ℕ-discrete n m) (h n p g w)
@@ -444,7 +444,7 @@ no-fit : (p : Packet) (s : Sender) → fits p s ≡ false → s .cwnd < s .infli
 unfolding fits
 no-fit p s f = leb-false (s .inflight + length (p .bytes)) (s .cwnd) f
 
--- flushing comes to its end, or stops where the window has no room
+-- flushing reaches its end, or stops because the window has no room
 flush-stops : (k m : ℕ) (e : End) → length (e .sender .outgoing) ≡ ceiling → WaitsFrom m e → WaitsFrom (m + k) (flushLoop k m e) ⊎ NotDead.NoRoom (flushLoop k m e)
 unfolding flushLoop
 flush-stops zero m e l h = inl (λ n p g w. let a = h n p g w in omega arith)
@@ -531,7 +531,7 @@ counted-none e =
       rx-bytes = refl;
     }
 
--- one piece more in front
+-- one more piece in front
 counted-one : (p : Bytes) (count : ℕ) (e x : End) → NotDead.Counted count (sendDataPacket p e) x → NotDead.Counted (length p + count) e x
 unfolding countSent
 counted-one p count e x c =

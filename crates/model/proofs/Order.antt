@@ -1,4 +1,4 @@
--- The refusals of each call stand in 01's order: computed. Those of header coding and of a read are cases of its definition.
+-- The refusals of each call are in 01's order, by computation. Those of header coding and of a read are cases of their definitions.
 use Prim.Native.Nat.{ℕ}
 use mathlib.Core.Path.{_≡_, refl, sym, ap, _∙_}
 use mathlib.Core.Option.{some}

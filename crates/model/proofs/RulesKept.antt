@@ -1,5 +1,5 @@
--- The test of the rules and the rules as facts say the same (`rules-say`, `rules-said`), part by part: each line of the test is an
--- order or an equation of numbers. And bounds that follow: a full store's bytes, and how long a queue at rest can be.
+-- The test of the rules and the rules as facts are equivalent (`rules-say`, `rules-said`), part by part: each line of the test is an
+-- inequality or an equation of numbers. Then bounds that follow: the bytes of a full store, and the length of a queue at rest.
 use Prim.Native.Nat.{ℕ, zero, suc, _+_, _*_, _%_, _≤_, _<_, zero-le}
 use native.Mathlib.Nat.{add-suc}
 use native.Mathlib.Decide.{ℕ-discrete}
@@ -223,13 +223,13 @@ rules-said e k =
 
 -- bounds that follow
 
--- a sum of numbers that are each at most m
+-- a sum of numbers of at most m each
 pub sum-most : (w : Packet → ℕ) (m : ℕ) (s : Slots Packet) → ((i : ℕ) (x : Numbered Packet) → getD s i none ≡ some x → w (x .value) ≤ m) → Rules.sum w s ≤ m * length s
 sum-most w m [] h = zero-le
 sum-most w m (none ∷ s) h = let u = sum-most w m s (λ i x e. h (suc i) x e) in omega arith
 sum-most w m (some x ∷ s) h = let u = sum-most w m s (λ i x e. h (suc i) x e) in let v = h 0 x refl in omega arith
 
--- distinct numbers from a to below b are at most b - a
+-- there are at most b - a distinct numbers from a to below b
 less : ℕ → List ℕ → List ℕ
 less n [] = []
 less n (m ∷ ms) = cond (eqb n m) ms (m ∷ less n ms)
@@ -261,7 +261,7 @@ less-distinct n (m ∷ ms) h = let (a, b) = both h in go (eqb n m) a b (less-dis
     go true a b r = b
     go false a b r = and-true (less-absent n m ms a) r
 
--- numbers below b + 1 among which b is not are below b
+-- numbers below b + 1 that do not include b are below b
 below-absent : (a b : ℕ) (ns : List ℕ) → Rules.absent b ns ≡ true → Every (λ n. (a ≤ n) × (n < suc b)) ns → Every (λ n. (a ≤ n) × (n < b)) ns
 below-absent a b [] h k = tt
 below-absent a b (n ∷ ns) h k =

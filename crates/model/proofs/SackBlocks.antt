@@ -1,5 +1,5 @@
--- SACK blocks take just their numbers out of the store: one number by the laws of `remove`, a run of them and then a list of runs
--- by induction.
+-- SACK blocks take exactly their numbers out of the store: one number by the laws of `remove`, a run of them and then a list of runs by
+-- induction.
 use Prim.Native.Nat.{ℕ, zero, suc, _+_, _-_, _≤_, _<_}
 use native.Mathlib.Decide.{ℕ-discrete, decLe, decLt}
 use native.Mathlib.Omega.{arith}

@@ -1,6 +1,6 @@
--- A store whose values stand in their slots and have numbers from n to below n + k: a test of every slot is a test of these k numbers
--- (`every-number`), a sum over the slots a sum over these k numbers (`sum-number`). The test goes through what it says of each value; the
--- sum by taking the lowest number out, k times.
+-- For a store whose values are in their slots and have numbers from n to below n + k, a test of every slot is a test of these k numbers
+-- (`every-number`), and a sum over the slots is a sum over these k numbers (`sum-number`). The tests are compared value by value; the sum
+-- takes the lowest number out, k times.
 use Prim.Native.Nat.{ℕ, zero, suc, _+_, _%_, _≤_, _<_}
 use native.Mathlib.Decide.{ℕ-discrete}
 use native.Mathlib.Omega.{arith}
@@ -20,18 +20,18 @@ use Rattle.model.proofs.Slots.{no-some, remove-length, remove-keep, rem
 use Rattle.model.proofs.SlotSums.{SlotsOk, get-slot, slots-map, slots-remove, every-slot, sum-wipe, sum-miss}
 use Rattle.model.proofs.Gate.{and-left, and-right, and-true}
 
--- every value stands in its slot, and its number is one of the k from n on
+-- every value is in its slot, and its number is one of the k from n on
 abbrev pub Among : {A : Type 0} → (k n : ℕ) → Slots A → Type 0
 Among k n s = SlotsOk (λ m v. (n ≤ m) × (m < n + k)) s
 
--- two tests that pass together are equal
+-- two tests that imply each other are equal
 pub same-test : (a b : Bool) → (a ≡ true → b ≡ true) → (b ≡ true → a ≡ true) → a ≡ b
 same-test true b f g = sym (f refl)
 same-test false true f g = g refl
 same-test false false f g = refl
 
 module _ {A : Type 0} where
-  -- a value that stands in its slot is found by its number
+  -- a value in its slot is found by its number
   pub slot-get : (Q : ℕ → A → Type 0) (s : Slots A) → SlotsOk Q s → (i : ℕ) (x : Numbered A) → getD s i none ≡ some x → get s (x .number) ≡ some (x .value)
   unfolding get
   slot-get Q s h i x e = ap (valueOf (x .number)) (ap (λ (j : ℕ). getD s j none) (h i x e .0) ∙ e) ∙ rw (eq-eqb (x .number) (x .number) refl)

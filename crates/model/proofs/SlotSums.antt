@@ -1,4 +1,4 @@
--- Every value of a store keeps a property, and sums over a store, as values come, change and leave.
+-- A property of every value of a store, and sums over a store, as values come, change and leave.
 use Prim.Native.Nat.{ℕ, zero, suc, _+_, _%_, _<_}
 use native.Mathlib.Decide.{ℕ-discrete}
 use native.Mathlib.Omega.{arith}
@@ -53,7 +53,7 @@ slots-insert {A} Q s n v l h q i x e = go (ℕ-discrete i (n % ceiling))
         subst (λ (x : Numbered A). (x .number % ceiling ≡ i) × Q (x .number) (x .value)) z (sym d, q)
     go (no d) = h i x (sym (getD-set-other s (n % ceiling) i (some new) none d) ∙ e)
 
--- the property may change for the others
+-- the same, with another property for the values that stay
 pub slots-again : {A : Type 0} (Q R : ℕ → A → Type 0) (s : Slots A) (n : ℕ) (v : A) → length s ≡ ceiling → SlotsOk Q s → ((m : ℕ) (u : A) → m ≢ n → Q m u → R m u) → R n v → SlotsOk R (insert s n v)
 unfolding insert
 slots-again {A} Q R s n v l h f q i x e = go (ℕ-discrete i (n % ceiling))

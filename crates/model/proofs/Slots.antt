@@ -1,5 +1,5 @@
--- The laws of `get`, `insert` and `remove`: what a store holds after either, at the same number and at others. Numbers within a
--- ceiling of each other that are not equal have different slots (`apart`).
+-- The laws of `get`, `insert` and `remove`: what a store holds after an insertion or a removal, at the same number and at others. Different
+-- numbers less than the ceiling apart have different slots (`apart`).
 use Prim.Native.Nat.{ℕ, zero, suc, _+_, _%_, _≤_, _<_}
 use native.Mathlib.Decide.{ℕ-discrete}
 use native.Mathlib.Omega.{arith}
@@ -41,7 +41,7 @@ module _ {A : Type 0} where
       go none = refl
       go (some v) = length-set s (n % ceiling) none
 
-  -- a store
+  -- an insertion
 
   pub insert-same : (s : Slots A) (n : ℕ) (v : A) → length s ≡ ceiling → get (insert s n v) n ≡ some v
   unfolding get insert
@@ -51,7 +51,7 @@ module _ {A : Type 0} where
   unfolding get insert
   insert-other s n m v h = ap (valueOf m) (getD-set-other s (n % ceiling) (m % ceiling) (some (record { number = n; value = v })) none h)
 
-  -- what stands in a slot has one number
+  -- the value in a slot has one number
   valueOf-one : (o : Option (Numbered A)) (m n : ℕ) (v w : A) → valueOf m o ≡ some v → valueOf n o ≡ some w → m ≡ n
   valueOf-one none m n v w p q = absurd (no-some refl p)
   valueOf-one (some x) m n v w p q = go (eqb (x .number) m) refl (eqb (x .number) n) refl p q

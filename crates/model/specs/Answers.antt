@@ -1,4 +1,4 @@
--- What a call answers: the first refusal of a list of tests, or what the call does.
+-- The answer of a call: the first refusal that applies, or what the call does.
 use Prim.Native.Nat.{ℕ}
 use mathlib.Core.List.{List, [], _∷_}
 use mathlib.Core.Option.{Option, none, some}
@@ -35,7 +35,7 @@ pub record Answer : Type 0 where
 abbrev pub refused : Refusal → End → Answer
 refused why e = record { outcome = Refused why; count = 0; bytes = []; segment = none; end = e }
 
--- a call that answers with no bytes
+-- an answer that has no bytes
 abbrev pub answered : Outcome → End → Answer
 answered o e = record { outcome = o; count = 0; bytes = []; segment = none; end = e }
 

@@ -8,7 +8,7 @@ use Rattle.model.specs.Sending.{write, close}
 use Rattle.model.specs.Receiving.{deliver, read}
 use Rattle.model.specs.Driving.{drive, take}
 
--- 01, 'Calls', 2 to 7, each with what its caller brings: bytes, a datagram and a clock, a clock, the room of a buffer
+-- 01, 'Calls', 2 to 7, each with its arguments: bytes; a datagram and a clock; a clock; the room in a buffer
 pub data Call : Type 0 where
   writeCall : Bytes → Call
   deliverCall : Bytes → ℕ → Call

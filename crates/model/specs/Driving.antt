@@ -33,7 +33,7 @@ unfoldable pub settleLoop : (clock count : ℕ) → End → End
 settleLoop clock zero e = e
 settleLoop clock (suc k) e = settleLoop clock k (settleOne clock e)
 
--- the largest ack since this drive
+-- resets the largest ack
 abbrev pub noAck : Sender → Sender
 noAck s = record { seq = s .seq; remoteAcked = s .remoteAcked; largestAck = 0; inflight = s .inflight; cwnd = s .cwnd; outgoing = s .outgoing }
 
@@ -67,7 +67,7 @@ lostMarks m = record { waiting = true; transmits = suc (m .transmits); sent = m 
 abbrev pub marked : (Marks → Marks) → Packet → Packet
 marked f p = record { bytes = p .bytes; marks = f (p .marks) }
 
--- packet n, which is p, with other marks, and another inflight
+-- gives packet n, which is p, other marks, and the sender another inflight
 abbrev pub remarked : (n inflight : ℕ) → (Marks → Marks) → Packet → Sender → Sender
 remarked n inflight f p s =
     record { seq = s .seq; remoteAcked = s .remoteAcked; largestAck = s .largestAck; inflight = inflight; cwnd = s .cwnd; outgoing = insert (s .outgoing) n (marked f p) }
@@ -75,7 +75,7 @@ remarked n inflight f p s =
 abbrev pub lost : ℕ → Packet → End → End
 lost n p e = withSender (remarked n (e .sender .inflight - length (p .bytes)) lostMarks p (e .sender)) e
 
--- a pass over the stored packets, which one of them may have failed
+-- the end after a pass over the stored packets, and whether one of them failed
 pub record Passed : Type 0 where
   pub failed : Bool
   pub end : End
@@ -116,7 +116,7 @@ checkTimeouts clock e =
 abbrev pub flushedMarks : Marks → Marks
 flushedMarks m = record { waiting = false; transmits = m .transmits; sent = m .sent }
 
--- the packet does not wait any more, counts as inflight and is queued
+-- the packet stops waiting, counts as inflight and is queued
 abbrev pub flushed : ℕ → Packet → End → End
 flushed n p e =
     withQueue (pushed (packet n (length (p .bytes))) (e .queue))
@@ -162,7 +162,7 @@ driveTests clock e =
 unfoldable pub driveRefusal : ℕ → End → Option Refusal
 driveRefusal clock e = first (driveTests clock e)
 
--- an accepted drive, done or not, is the last call with a clock and the last drive
+-- an accepted drive, done or not, sets both clocks
 abbrev pub driveClock : ℕ → End → End
 driveClock clock e = withClocks (record { last = clock; drive = clock }) e
 
@@ -170,11 +170,11 @@ driveClock clock e = withClocks (record { last = clock; drive = clock }) e
 abbrev pub ended : End → End
 ended e = withEnding (record { error = e .ending .error; state = e .ending .state; ended = true }) e
 
--- what is queued is left to take
+-- leaves the whole queue to take
 abbrev pub leftToTake : End → End
 leftToTake e = withQueue (record { entries = e .queue .entries; left = length (e .queue .entries) }) e
 
--- poll_drive; after TimedOut the poll runs again at that clock, when nothing is settled or due any more, and flushes
+-- poll_drive; after TimedOut the poll runs again at that clock: nothing is left to settle and nothing is due, so it only flushes
 unfoldable pub pollDrive : ℕ → End → End
 pollDrive clock e = leftToTake (flush (checkTimeouts clock (settle clock (driveClock clock e))))
 
@@ -193,7 +193,7 @@ abbrev pub headLength : List Entry → ℕ
 headLength [] = 0
 headLength (x ∷ q) = entryLength x
 
--- how many of the first k entries have length l, up to the first that has not
+-- how many of the first k entries have length l, up to the first that does not
 unfoldable pub sameLength : (k l : ℕ) → List Entry → ℕ
 sameLength zero l q = 0
 sameLength (suc k) l [] = 0

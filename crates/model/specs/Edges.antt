@@ -16,7 +16,7 @@ use Rattle.model.specs.Sending.{goes, sendDataPacket}
 use Rattle.model.specs.Receiving.{onAckSender}
 use Rattle.model.specs.Driving.{due, backedOff, timeOutLoop, checkTimeouts}
 
--- what a definition gives, and what 01 says that it is
+-- the value that a definition gives, and the value that 01 states
 pub record Edge : Type 0 where
   pub found : ℕ
   pub stated : ℕ
@@ -27,7 +27,7 @@ edge f d = record { found = f; stated = d }
 abbrev ms : ℕ → ℕ
 ms n = n * 1_000_000
 
--- the estimate after the sample 100 ms, and after 900 ms more
+-- the estimate after a sample of 100 ms, and after another of 900 ms
 abbrev one : Rtt
 one = sampled estimate.fresh (ms 100)
 
@@ -44,11 +44,11 @@ nearlyFull = record { seq = 2; remoteAcked = 0; largestAck = 0; inflight = 2_799
 abbrev oneByte : Bytes
 oneByte = 0 ∷ []
 
--- inflight after one byte, or 0 where it does not go
+-- inflight after one byte was written, or 0 if it does not go
 abbrev inflightThen : ℕ
 inflightThen = cond (goes oneByte nearlyFull) ((sendDataPacket oneByte (withSender nearlyFull (fresh 1 2 10 0))) .sender .inflight) 0
 
--- a sender with one packet that was not acknowledged, and this window
+-- a sender with this window and one unacknowledged packet
 abbrev withWindow : ℕ → Sender
 withWindow w = record { seq = 1; remoteAcked = 0; largestAck = 0; inflight = 0; cwnd = w; outgoing = noSlots }
 
@@ -57,7 +57,7 @@ abbrev acknowledged : ℕ → ℕ
 acknowledged w =
     onAckSender (record { typ = 0; «data_offset» = 0; «stream_id» = 1; «recv_win» = 0; seq = 0; ack = 1 }) (withWindow w) .cwnd
 
--- the window after the timer was found due: a fresh stream's deadline is 1,000 ms
+-- the window after a due timeout: a fresh stream's deadline is 1,000 ms
 abbrev timedOut : ℕ → ℕ
 timedOut w = checkTimeouts (ms 1_000) (withSender (withWindow w) (fresh 1 2 10 0)) .sender .cwnd
 

@@ -1,6 +1,6 @@
--- Examples computed over the definitions: 01's example session, a packet's whole way with its ack's way back, a packet that is
--- resent, one that is never acknowledged, and 01's traps with the other steps that are easily off by one. A wrong definition of one of
--- these steps fails here, whatever the proofs about all runs say. Statements; all of them are computed in proofs/Examples.antt.
+-- Examples computed from the definitions: 01's example session, a packet's way out with its ack's way back, a packet that is resent, one
+-- that is never acknowledged, 01's traps, and other steps that are easily off by one. A wrong definition of one of these steps fails here,
+-- whatever the proofs about all runs say. Statements only: proofs/Examples.antt computes them.
 use Prim.Native.Nat.{ℕ}
 use mathlib.Core.Path.{_≡_}
 use mathlib.Core.List.{List, [], _∷_, map}
@@ -37,7 +37,7 @@ aaa = 65 ∷ 65 ∷ 65 ∷ []
 abbrev bcd : Bytes
 bcd = 66 ∷ 67 ∷ 68 ∷ []
 
--- a datagram by its type, stream, seq and ack, each below 256
+-- a datagram with this type, stream, seq and ack, each below 256
 abbrev datagramOf : (typ stream seq ack : ℕ) → Bytes → Bytes
 datagramOf typ stream seq ack payload =
     255 ∷ 1 ∷ typ ∷ 0 ∷ stream ∷ 0 ∷ 0 ∷ 0 ∷ 255 ∷ 255 ∷ 255 ∷ 255 ∷ seq ∷ 0 ∷ 0 ∷ 0 ∷ ack ∷ 0 ∷ 0 ∷ 0 ∷ payload
@@ -62,7 +62,7 @@ endOf stream = datagramOf 2 stream 0 0 []
 abbrev sack : Bytes
 sack = datagramOf 4 1 0 0 (1 ∷ 0 ∷ 0 ∷ 0 ∷ 2 ∷ 0 ∷ 0 ∷ 0 ∷ 0 ∷ [])
 
--- the line of each call, with the end that it leaves handed on
+-- the lines of a list of calls, each run on the end that the one before it left
 abbrev linesOf : List Call → End → List SessionLine
 linesOf [] e = []
 linesOf (c ∷ cs) e = let a = answer c e in lineOf a ∷ linesOf cs (a .end)
@@ -82,21 +82,21 @@ nearlyWrapped =
       inflightBytes = 0;
     }
 
--- the next packet but one has no number
+-- only one more packet can have a number
 abbrev beforeLast : Sender
 beforeLast = record { seq = 4_294_967_294; remoteAcked = 4_294_967_294; largestAck = 0; inflight = 0; cwnd = 2_800; outgoing = noSlots }
 
 abbrev countOf : SessionLine → ℕ
 countOf l = l .count
 
--- the lengths of the stored packets 0, 1 and 2, 0 where there is none
+-- the length of a stored packet, or 0 if there is none; below, those of packets 0, 1 and 2
 abbrev storedLength : End → ℕ → ℕ
 storedLength e n = on (get (e .sender .outgoing) n) 0 (λ p. length (p .bytes))
 
 abbrev storedLengths : End → List ℕ
 storedLengths e = storedLength e 0 ∷ storedLength e 1 ∷ storedLength e 2 ∷ []
 
--- what is settled, in flight and allowed, the estimate and the totals of a sender
+-- a sender's remote acked, inflight, window, estimate, deadline and totals
 abbrev numbersOf : End → List ℕ
 numbersOf e =
     e .sender .remoteAcked
@@ -116,18 +116,18 @@ numbersOf e =
 abbrev acksOf : End → List ℕ
 acksOf e = e .sender .remoteAcked ∷ e .sender .largestAck ∷ []
 
--- how often packet 0 was transmitted
+-- the transmits of packet 0, or 0 if it is not stored
 abbrev transmitsOf : End → ℕ
 transmitsOf e = on (get (e .sender .outgoing) 0) 0 (λ p. p .marks .transmits)
 
--- a packet that is taken after every drive
+-- one packet is written, driven at clock 0 and taken; then come these calls
 abbrev taken : List Call → List Call
 taken cs = writeCall aaa ∷ driveCall 0 ∷ takeCall 14_000 ∷ cs
 
 abbrev dueAt : ℕ → List Call → List Call
 dueAt clock cs = driveCall clock ∷ takeCall 14_000 ∷ cs
 
--- 01's example (end 0: id 1, end 1: id 2)
+-- The statements. In 01's example session end 0 has id 1 and end 1 has id 2.
 pub record Examples : Type 0 where
   -- "write 0 ok 3, drive 0 ok 0, take 0 ok 23, take 0 none 0"
   pub session-sender :
@@ -172,11 +172,11 @@ pub record Examples : Type 0 where
       (after (taken (dueAt 1_000_000_000 (dueAt 3_000_000_000 (dueAt 5_000_000_000 [])))) (fresh 1 2 10 0)) .ending .error ≡ error.None
   pub fourth-fails :
       (after (taken (dueAt 1_000_000_000 (dueAt 3_000_000_000 (dueAt 5_000_000_000 (driveCall 7_000_000_000 ∷ []))))) (fresh 1 2 10 0)) .ending .error ≡ error.TimedOut
-  -- "a packet longer than what remains of the buffer gives its front part and ends the read"; the next read goes on there
+  -- "a packet longer than what remains of the buffer gives its front part and ends the read"; the next read continues there
   pub front-first :
       linesOf (deliverCall (dataOf 0 bcd) 5 ∷ readCall 2 ∷ readCall 2 ∷ []) (fresh 2 1 10 0)
       ≡ line Ready 0 [] ∷ line Waiting 2 (66 ∷ 67 ∷ []) ∷ line Ready 1 (68 ∷ []) ∷ []
-  -- an ack that was delivered is the largest ack, and moves remote acked at the next drive, not before
+  -- a delivered ack becomes the largest ack; it moves remote acked at the next drive, not before
   pub settled-by-drive :
       acksOf (after (taken (deliverCall (ackOf 1) 5 ∷ [])) (fresh 1 2 10 0))
       ∷ acksOf (after (taken (deliverCall (ackOf 1) 5 ∷ driveCall 5 ∷ [])) (fresh 1 2 10 0))
@@ -208,11 +208,11 @@ pub record Examples : Type 0 where
   pub settled-entry :
       linesOf (writeCall aaa ∷ deliverCall (ackOf 1) 5 ∷ driveCall 5 ∷ takeCall 14_000 ∷ takeCall 14_000 ∷ []) (fresh 1 2 10 0)
       ≡ line Ready 3 [] ∷ line Ready 0 [] ∷ line Ready 0 [] ∷ line Ready 0 [] ∷ line Nothing 0 [] ∷ []
-  -- "until inflight + length exceeds the window": halved to 1,400, it lets a packet of 1,400 bytes go again
+  -- "until inflight + length exceeds the window": halved to 1,400, the window still lets a packet of 1,400 bytes go again
   pub fills-window :
       (after (writeCall (replicate 1_380 65) ∷ driveCall 0 ∷ takeCall 14_000 ∷ driveCall 1_000_000_000 ∷ []) (fresh 1 2 10 0)) .queue .entries
       ≡ packet 0 1_400 ∷ []
-  -- and at the first that does not fit it stops: a shorter one behind it waits
+  -- flushing stops at the first packet that does not fit: a shorter one behind it waits
   pub flush-stops :
       (after
       (writeCall aaa
@@ -226,8 +226,8 @@ pub record Examples : Type 0 where
       ∷ [])
       (fresh 1 2 10 0)) .queue .entries
       ≡ packet 0 23 ∷ []
-  -- acks that come in the other order: the larger one is settled, the time sent is the drive's clock and the samples are 400 ms; the window grew
-  -- for each ack past remote acked, and not for the one that came after the drive
+  -- acks that arrive out of order: the larger one is settled, the time sent is the drive's clock and the samples are 400 ms; the window
+  -- grew for each ack past remote acked, and not for the one that came after the drive
   pub acks-swapped :
       (let e =
       after
@@ -243,7 +243,7 @@ pub record Examples : Type 0 where
       (fresh 1 2 10 0) in
       e .sender .remoteAcked ∷ e .sender .cwnd ∷ e .timing .rtt .srtt .0 ∷ [])
       ≡ 2 ∷ 5_600 ∷ 400_000_000 ∷ []
-  -- "if deadline is at most now and remote acked differs from seq": a timer is not due where nothing is unacknowledged
+  -- "if deadline is at most now and remote acked differs from seq": the timer is not due if everything is acknowledged
   pub idle-not-due : (after (driveCall 1_000_000_000 ∷ []) (fresh 1 2 10 0)) .sender .cwnd ≡ 2_800
   -- "at most the ceiling of equal-length entries": of 23, 23, 23 and 21 bytes at ceiling 2
   pub batches :
@@ -268,7 +268,7 @@ pub record Examples : Type 0 where
       ∷ look (after (taken []) (fresh 1 2 10 0))
       ∷ []
       ≡ [] ∷ datagram ∷ [] ∷ []
-  -- END is answered with END; the delivery's clock counts; "a read with 14 to 16" meets the error
+  -- END is answered with END; a drive before the delivery's clock is refused; "a read with 14 to 16" meets the error
   pub ended-by-peer :
       linesOf (deliverCall (endOf 2) 5 ∷ readCall 8 ∷ writeCall aaa ∷ driveCall 4 ∷ driveCall 5 ∷ takeCall 14_000 ∷ []) (fresh 2 1 10 0)
       ≡ line Ready 0 []
@@ -278,7 +278,7 @@ pub record Examples : Type 0 where
       ∷ line Ready 0 []
       ∷ line Ready 20 (endOf 1)
       ∷ []
-  -- a close, up to done and past it
+  -- a close, until done and after it
   pub closed-to-done :
       linesOf (closeCall ∷ writeCall aaa ∷ driveCall 0 ∷ takeCall 14_000 ∷ driveCall 0 ∷ driveCall 0 ∷ []) (fresh 1 2 10 0)
       ≡ line Ready 0 []
@@ -288,11 +288,11 @@ pub record Examples : Type 0 where
       ∷ line Done 0 []
       ∷ line (Refused refusal.AfterDone) 0 []
       ∷ []
-  -- "END closes both sides", a close the local one
+  -- "END closes both sides"; a close closes only the local one
   pub sides-closed :
       (after (deliverCall (endOf 2) 5 ∷ []) (fresh 2 1 10 0)) .ending .state ∷ (after (closeCall ∷ []) (fresh 1 2 10 0)) .ending .state ∷ []
       ≡ bothClosed ∷ localClosed ∷ []
-  -- "END closes both sides" of an end that has closed; a close of one that was ended "replaces any earlier error" and opens no side again
+  -- "END closes both sides" of an end that has closed; a close after END "replaces any earlier error" and reopens no side
   pub closed-and-ended :
       (after (closeCall ∷ deliverCall (endOf 1) 5 ∷ []) (fresh 1 2 10 0)) .ending
       ∷ (after (deliverCall (endOf 2) 5 ∷ closeCall ∷ []) (fresh 2 1 10 0)) .ending
@@ -302,9 +302,9 @@ pub record Examples : Type 0 where
   pub backed-off : (after (taken (driveCall 1_000_000_000 ∷ [])) (fresh 1 2 10 0)) .timing .deadline ≡ 3_000_000_000
   -- 'Fresh': "deadline now + rto"
   pub opened-at : (fresh 1 2 10 7) .timing .deadline ∷ (fresh 1 2 10 7) .clocks .last ∷ (fresh 1 2 10 7) .clocks .drive ∷ [] ≡ 1_000_000_007 ∷ 7 ∷ 7 ∷ []
-  -- settling comes before the timeouts: an ack that comes at the deadline is no timeout
+  -- settling comes before the timeouts: an ack that arrives at the deadline prevents one
   pub ack-in-time : (after (taken (deliverCall (ackOf 1) 1_000_000_000 ∷ driveCall 1_000_000_000 ∷ [])) (fresh 1 2 10 0)) .sender .cwnd ≡ 4_200
-  -- refusals 7 to 12, and what is just let through
+  -- refusals 7 to 10 and 12, and the largest number and payload that are accepted
   pub refused-deliveries :
       map outcomeOf
       (linesOf
@@ -325,14 +325,14 @@ pub record Examples : Type 0 where
       ∷ Ready
       ∷ Ready
       ∷ []
-  -- refusal 5, and the clock of the drive that answered done
+  -- refusal 5; and the drive that answered done counts as the last clock
   pub after-done :
       map outcomeOf
       (linesOf (closeCall ∷ driveCall 0 ∷ takeCall 14_000 ∷ driveCall 7 ∷ deliverCall (ackOf 0) 7 ∷ closeCall ∷ driveCall 6 ∷ []) (fresh 1 2 10 0))
       ≡ Ready ∷ Ready ∷ Ready ∷ Done ∷ Refused refusal.AfterDone ∷ Refused refusal.AfterDone ∷ Refused refusal.BadClock ∷ []
   -- refusal 2 of a take
   pub short-buffer : map outcomeOf (linesOf (takeCall 13_999 ∷ takeCall 14_000 ∷ []) (fresh 1 2 10 0)) ≡ Refused refusal.ShortBuffer ∷ Nothing ∷ []
-  -- a packet that just fits is finished
+  -- a packet that exactly fits is finished
   pub just-fits : linesOf (deliverCall (dataOf 0 aaa) 5 ∷ readCall 3 ∷ []) (fresh 2 1 10 0) ≡ line Ready 0 [] ∷ line Ready 3 aaa ∷ []
   -- "an empty write with 0"
   pub empty-write : linesOf (writeCall [] ∷ []) (fresh 1 2 10 0) ≡ line Ready 0 [] ∷ []

@@ -1,11 +1,11 @@
--- Bytes, pieces and optional values: what the definitions of a stream are written with.
+-- Bytes, pieces and optional values, used by the definitions of a stream.
 use Prim.Native.Nat.{ℕ, zero, suc}
 use mathlib.Core.List.{List, [], _∷_, _++_}
 use mathlib.Core.Option.{Option, none, some}
 use mathlib.Core.Bool.{Bool, true, false}
 use lib.ListN.{take, drop}
 
--- bytes, or numbers that stand for them
+-- bytes, as natural numbers
 abbrev pub Bytes : Type 0
 Bytes = List ℕ
 
@@ -24,7 +24,7 @@ abbrev pub isEmpty : {A : Type 0} → List A → Bool
 isEmpty [] = true
 isEmpty (x ∷ xs) = false
 
--- what f gives where there is a value, else the default
+-- f of the value if there is one, else the default
 abbrev pub on : {A B : Type 0} → Option A → B → (A → B) → B
 on none b f = b
 on (some a) b f = f a

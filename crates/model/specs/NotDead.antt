@@ -1,7 +1,7 @@
 -- 01, 'What the contracts say', 2: "Shut out by demand 2: refusing every datagram, answering waiting to all writes, answering done or none
 -- with packets queued, queuing everything in the first drive and idling later, inventing inflight or totals." The statement is `NotDead`,
--- with a field for each of these over every end, whether calls reach it or not; above it are the calls that 01 lets through, as facts
--- in which the tests of the calls do not occur. Statements only: the proof is proofs/NotDead.antt.
+-- with a field for each of these, for every end, reachable or not. Above it are the calls that 01 accepts, as facts that do not mention the
+-- calls' own tests. Statements only: the proof is proofs/NotDead.antt.
 use Prim.Native.Nat.{ℕ, _+_, _*_, _%_, _^_, _≤_, _<_, min}
 use mathlib.Core.Path.{_≡_}
 use mathlib.Core.List.{List, [], _∷_, _++_}
@@ -20,9 +20,9 @@ use Rattle.model.specs.Sending.{write}
 use Rattle.model.specs.Receiving.{deliver, read}
 use Rattle.model.specs.Driving.{drive, take}
 
--- calls that 01 lets through
+-- calls that 01 accepts
 
--- a delivery that meets none of refusals 1, 4 to 13, which its fields take in that order
+-- a delivery that meets none of refusals 1, 4 to 13; the fields are in that order
 pub record Deliverable (datagram : Bytes) (clock : ℕ) (e : End) : Type 0 where
   pub rules-hold : rules e ≡ true
   pub clock-fits : clock < 2 ^ 60
@@ -75,7 +75,7 @@ abbrev pub bytesOf : Slots Packet → Entry → Bytes
 bytesOf outgoing (state b) = b
 bytesOf outgoing (packet n l) = on (get outgoing n) [] (λ p. p .bytes)
 
--- the lowest packet that waits is too long for what the window has left
+-- the lowest waiting packet does not fit in the window
 pub record NoRoom (e : End) : Type 0 where
   pub number : ℕ
   pub packet : Packet
@@ -97,28 +97,28 @@ pub record Counted (count : ℕ) (before after : End) : Type 0 where
   pub rx-bytes : after .totals .rxBytes ≡ before .totals .rxBytes
 
 pub record NotDead : Type 0 where
-  -- not "refusing every datagram": refused is only what 01 refuses
+  -- not "refusing every datagram": only what 01 refuses is refused
   pub delivers : (datagram : Bytes) (clock : ℕ) (e : End) → Deliverable datagram clock e → (deliver datagram clock e) .outcome ≡ Ready
-  -- not "answering waiting to all writes": the first piece goes at the least
+  -- not "answering waiting to all writes": at least the first piece goes
   pub writes : (bytes : Bytes) (e : End) → Writable bytes e → ((write bytes e) .outcome ≡ Ready) × (min (length bytes) 1_380 ≤ (write bytes e) .count)
   -- not "answering done .. with packets queued", nor with one stored
   pub drives : (clock : ℕ) (e : End) → Drivable clock e → ((drive clock e) .outcome ≡ Ready) ⊎ ((drive clock e) .outcome ≡ Done)
   pub done-drained : (clock : ℕ) (e : End) → (drive clock e) .outcome ≡ Done → Drained e
-  -- not "answering .. none with packets queued": none is answered where nothing is left to take; else the first entry is taken at the
-  -- least, with its bytes in front, and fewer are left
+  -- not "answering .. none with packets queued": none is answered only if nothing is left to take; else at least the first entry is taken,
+  -- its bytes come first, and fewer are left
   pub none-left : (room : ℕ) (e : End) → (take room e) .outcome ≡ Nothing → e .queue .left ≡ 0
   pub takes : (room : ℕ) (e : End) → Takeable room e → ((take room e) .outcome ≡ Ready) × ((take room e) .end .queue .left < e .queue .left)
   pub takes-first : (room : ℕ) (e : End) → Takeable room e → (x : Entry) (q : List Entry) → e .queue .entries ≡ x ∷ q
       → (rest : Bytes) × ((take room e) .bytes ≡ bytesOf (e .sender .outgoing) x ++ rest)
-  -- not "queuing everything in the first drive and idling later": each drive leaves all that is queued to take, has kept all that was
-  -- queued before it, and leaves a packet waiting only where the window has no room
+  -- not "queuing everything in the first drive and idling later": each drive leaves the whole queue to take, keeps all that was queued
+  -- before it, and leaves a packet waiting only if the window has no room
   pub all-left : (clock : ℕ) (e : End) → (drive clock e) .outcome ≡ Ready → (drive clock e) .end .queue .left ≡ length ((drive clock e) .end .queue .entries)
   pub still-queued : (clock : ℕ) (e : End) → (drive clock e) .outcome ≡ Ready
       → (more : List Entry) × ((drive clock e) .end .queue .entries ≡ e .queue .entries ++ more)
   pub waits-for-room : (clock : ℕ) (e : End) → length (e .sender .outgoing) ≡ ceiling → (drive clock e) .outcome ≡ Ready → (n : ℕ) (p : Packet)
       → get ((drive clock e) .end .sender .outgoing) n ≡ some p → p .marks .waiting ≡ true → NoRoom ((drive clock e) .end)
   -- not "inventing inflight or totals": a write counts exactly what it sent, a take and a read count nothing. (That inflight and its totals
-  -- are what is stored is a rule of the records, which calls from a fresh stream keep: `NeverBroken`, model_rules/specs/NeverBroken.antt.)
+  -- match the store is a rule of the records, which calls from a fresh stream keep: `NeverBroken`, model_rules/specs/NeverBroken.antt.)
   pub writes-counted : (bytes : Bytes) (e : End) → Counted ((write bytes e) .count) e ((write bytes e) .end)
   pub takes-counted : (room : ℕ) (e : End) → ((take room e) .end .totals ≡ e .totals) × ((take room e) .end .sender .inflight ≡ e .sender .inflight)
   pub reads-counted : (room : ℕ) (e : End) → ((read room e) .end .totals ≡ e .totals) × ((read room e) .end .sender ≡ e .sender)

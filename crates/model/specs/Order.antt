@@ -1,6 +1,6 @@
--- 01, 'Seventeen refusals, in checking order': the refusals that each call tests, by 01's numbers, in the order in which it tests them.
--- A call answers with the first that holds (`first`, Answers.antt). Beside them the refusals of header coding, and those that a read
--- answers by the stream's error. Statement only: the proof is proofs/Order.antt.
+-- 01, 'Seventeen refusals, in checking order': the refusals that each call tests, by 01's numbers, in the order in which it tests them. A
+-- call answers with the first that holds (`first`, Answers.antt). Also the refusals of header coding, and those that a read answers because
+-- of the stream's error. Statement only: the proof is proofs/Order.antt.
 use Prim.Native.Nat.{ℕ, _≤_, _<_}
 use mathlib.Core.Path.{_≡_}
 use mathlib.Core.List.{[], _∷_, map}
@@ -40,14 +40,14 @@ undecodedBy (header.Packet h) = none
 undecodedBy (header.Refused why) = some (numberOf why)
 
 pub record RefusalsInOrder : Type 0 where
-  -- beside refusal 1, which an open tests of the stores' lengths only (records/specs/Open.antt)
+  -- besides refusal 1, of which an open checks only the stores' lengths (records/specs/Open.antt)
   pub opens : (segments clock : ℕ) → map number (openTests segments clock) ≡ 3 ∷ 4 ∷ []
   pub writes : (bytes : Bytes) (e : End) → map number (writeTests bytes e) ≡ 1 ∷ 6 ∷ 14 ∷ 15 ∷ 16 ∷ 17 ∷ []
   pub delivers : (clock : ℕ) (datagram : Bytes) (h : Header) (payload : Bytes) (e : End)
       → map number (deliverTests clock datagram h payload e) ≡ 1 ∷ 4 ∷ 5 ∷ 6 ∷ 7 ∷ 8 ∷ 9 ∷ 10 ∷ 11 ∷ 12 ∷ 13 ∷ []
   pub drives : (clock : ℕ) (e : End) → map number (driveTests clock e) ≡ 1 ∷ 4 ∷ 5 ∷ 6 ∷ []
   pub takes : (room : ℕ) (e : End) → map number (takeTests room e) ≡ 1 ∷ 2 ∷ []
-  -- 14 to 16 are what a read answers, not what refuses it
+  -- 14 to 16 are outcomes of a read that ran, not tests before it
   pub reads : (e : End) → map number (readTests e) ≡ 1 ∷ []
   pub closes : (e : End) → map number (closeTests e) ≡ 1 ∷ 5 ∷ 6 ∷ 13 ∷ []
   -- 14, 15, 16: "Write or read meets" this error. A read that finished no packet answers it: "Ready only if a packet was finished, else

@@ -61,7 +61,7 @@ handleRemoteAck clock n p e =
     withTotals (countAcked (length (p .bytes) - 20) (e .totals))
     (withTiming (measured clock p (e .timing)) (withSender (left n p (e .sender)) e))
 
--- outgoing.remove(&n), and what follows where it was there
+-- outgoing.remove(&n), and what follows if it was stored
 unfoldable pub ackNumber : ℕ → ℕ → End → End
 ackNumber clock n e = on (get (e .sender .outgoing) n) e (λ p. handleRemoteAck clock n p e)
 
@@ -104,10 +104,11 @@ countData payload t =
 unfoldable pub onSack : ℕ → Header → Bytes → End → End
 onSack clock h payload e = cond (hasType 4 (h .typ)) (ackBlocks clock (blocks payload) e) e
 
--- 01, call 3: "END closes both sides, sets UnexpectedEof and queues a state packet."
+-- the remote side is closed
 abbrev pub remoteEnded : Ending → Ending
 remoteEnded x = record { error = x .error; state = closeRemote (x .state); ended = x .ended }
 
+-- 01, call 3: "END closes both sides, sets UnexpectedEof and queues a state packet."
 unfoldable pub onEnd : Header → End → End
 onEnd h e = cond (hasType 2 (h .typ)) (terminate error.UnexpectedEof (withEnding (remoteEnded (e .ending)) e)) e
 
@@ -150,7 +151,7 @@ onAckSender h s =
 abbrev pub onAck : Header → End → End
 onAck h e = withSender (onAckSender h (e .sender)) e
 
--- an accepted call's clock
+-- the clocks after an accepted call
 abbrev pub atClock : ℕ → Clocks → Clocks
 atClock clock c = record { last = clock; drive = c .drive }
 
@@ -242,7 +243,7 @@ abbrev pub readAnswer : Got → End → Answer
 readAnswer g e =
     record { outcome = readOutcome (g .ready) e; count = length (g .bytes); bytes = g .bytes; segment = none; end = withReceiver (g .receiver) e }
 
--- refusal 1 of a read; 14 to 16 are its outcome, "a read with 14 to 16 keeps the bytes it put and its new place"
+-- refusal 1 of a read; 14 to 16 are outcomes of a read that ran: "a read with 14 to 16 keeps the bytes it put and its new place"
 abbrev pub readTests : End → List Test
 readTests e = record { holds = not (rules e); refusal = refusal.BrokenRecords } ∷ []
 

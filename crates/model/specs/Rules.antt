@@ -36,7 +36,7 @@ abbrev pub distinct : List ℕ → Bool
 distinct [] = true
 distinct (n ∷ ns) = absent n ns && distinct ns
 
--- the queue's state packets, and the numbers of its other entries
+-- the number of state packets in the queue, and the packet numbers of the other entries
 abbrev pub states : List Entry → ℕ
 states [] = 0
 states (state b ∷ q) = suc (states q)

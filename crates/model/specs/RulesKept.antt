@@ -1,5 +1,5 @@
--- The rules of the records as facts, for proofs: a record with a field for each rule of specs/Rules.antt. That it is the same as the test,
--- `rules e ≡ true`, is proofs/RulesKept.antt.
+-- The rules of the records as facts, for proofs: a record with a field for each rule of specs/Rules.antt. proofs/RulesKept.antt proves it
+-- equivalent to the test, `rules e ≡ true`.
 use Prim.Native.Nat.{ℕ, _+_, _%_, _^_, _≤_, _<_}
 use mathlib.Core.Path.{_≡_}
 use mathlib.Core.List.{List, [], _∷_}
@@ -28,7 +28,7 @@ pub record HeldKept (readCursor slot n : ℕ) (h : Held) : Type 0 where
   pub most : length (h .payload) ≤ 1_380
   pub offset : h .offset ≤ length (h .payload)
 
--- what holds of each element
+-- P holds for every element
 abbrev pub Every : {A : Type 0} → (A → Type 0) → List A → Type 0
 Every P [] = Unit {0}
 Every P (x ∷ xs) = P x × Every P xs

@@ -1,4 +1,4 @@
--- What SACK blocks acknowledge, as a set of numbers rather than a run over them. Statement only: the proof is proofs/SackBlocks.antt.
+-- What SACK blocks acknowledge, as a set of numbers rather than a loop over them. Statement only: the proof is proofs/SackBlocks.antt.
 use Prim.Native.Nat.{ℕ}
 use mathlib.Core.Path.{_≡_}
 use mathlib.Core.List.{List, [], _∷_}
@@ -11,7 +11,7 @@ use Rattle.model.specs.Slots.{ceiling, get}
 use Rattle.model.specs.Stream.{End}
 use Rattle.model.specs.Receiving.{ackBlocks}
 
--- SACK blocks take just their numbers out of the store, "end excluded".
+-- SACK blocks take exactly their numbers out of the store, "end excluded".
 abbrev pub covers : List Span → ℕ → Bool
 covers [] n = false
 covers (b ∷ bs) n = (leb (b .start) n && ltb n (b .end)) || covers bs n

@@ -158,7 +158,7 @@ pub record Written : Type 0 where
   pub count : ℕ
   pub end : End
 
--- poll_write's loop: pieces go until one does not or no byte is left; each takes a byte or more
+-- poll_write's loop: pieces go until one does not or no byte is left; each has at least one byte
 unfoldable pub writeLoop : ℕ → Bytes → End → Written
 writeLoop zero bytes e = record { count = 0; end = e }
 writeLoop (suc k) bytes e =

@@ -1,5 +1,5 @@
--- Tests and sums over the values of a store by number, through `get` alone: the order in which code that looks every number up meets
--- them. Where the numbers cover the store they are the tests and sums over its slots (proofs/SlotNumbers.antt).
+-- Tests and sums over the values of a store by number, through `get` alone: the order of code that looks every number up. If the numbers
+-- cover the store, they equal the tests and sums over its slots (proofs/SlotNumbers.antt).
 use Prim.Native.Nat.{ℕ, zero, suc, _+_}
 use mathlib.Core.Bool.{Bool, true, _&&_}
 use Rattle.model.specs.Lists.{on}

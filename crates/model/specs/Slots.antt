@@ -1,6 +1,6 @@
--- A store: slots of numbered values, the slot of a number being the number mod the ceiling. Stands for the Rust's HashMap
--- (outgoing) and BTreeMap (incoming). The calls use it through `get`, `insert` and `remove` alone, whose laws are in proofs/Slots.antt;
--- the rules of the records go over its slots. Numbers less than the ceiling apart have slots of their own.
+-- A store: slots of numbered values; the slot of a number is the number mod the ceiling. It models the Rust's HashMap (outgoing) and
+-- BTreeMap (incoming). The calls use only `get`, `insert` and `remove`, whose laws are in proofs/Slots.antt; the rules of the records go
+-- over the slots. Different numbers less than the ceiling apart have different slots.
 use Prim.Native.Nat.{ℕ, _%_}
 use mathlib.Core.List.{List}
 use mathlib.Core.Option.{Option, none, some}
@@ -24,7 +24,7 @@ Slots A = List (Option (Numbered A))
 unfoldable pub noSlots : {A : Type 0} → Slots A
 noSlots = replicate ceiling none
 
--- the value in a slot, if it has the number
+-- the value in a slot, if it has this number
 abbrev pub valueOf : {A : Type 0} → ℕ → Option (Numbered A) → Option A
 valueOf n none = none
 valueOf n (some x) = cond (eqb (x .number) n) (some (x .value)) none

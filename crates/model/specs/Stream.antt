@@ -1,5 +1,5 @@
--- One end of a stream as a plain value: the groups of its record, the fresh one, and a setter for each group.
--- Instants and spans are nanoseconds; no definition adds one to a packet number.
+-- One end of a stream as a plain value: the groups of its record, a fresh end, and a setter for each group. Instants and spans are
+-- nanoseconds; no definition adds one to a packet number.
 use Prim.Native.Nat.{ℕ, _+_}
 use mathlib.Core.List.{List, []}
 use mathlib.Core.Option.{Option}
@@ -50,7 +50,7 @@ pub record Sender : Type 0 where
   pub remoteAcked : ℕ
   -- the largest ack delivered since the last drive
   pub largestAck : ℕ
-  -- bytes of the stored packets that do not wait
+  -- bytes of the stored packets that are not waiting
   pub inflight : ℕ
   -- the congestion window
   pub cwnd : ℕ

@@ -1,5 +1,5 @@
--- One piece goes from a fresh end to a fresh end and is read there. The idea: each call is computed once, to an explicit end, and
--- the rules hold at each end since calls from a fresh stream keep them.
+-- One piece goes from a fresh end to a fresh end and is read there. The idea: each call is computed once, to an explicit end, and the rules
+-- hold at each end because calls from a fresh stream keep them.
 use Prim.Native.Nat.{ℕ, zero, suc, _+_, _^_, _≤_, _<_, min}
 use native.Mathlib.Nat.{le-refl}
 use native.Mathlib.Omega.{arith}
@@ -175,7 +175,7 @@ module _ (i j segments clock : ℕ) (o : openRefusal segments clock ≡ none) (b
       (ap (λ (a : Answer). a .segment) take-answer ∙ ap (λ (n : ℕ). segmentOf n (headLength (drove .queue .entries))) one-entry)
       take-bytes
 
--- the other end: a datagram with a header of type 1, seq 0 and ack 0 for it, and a payload
+-- the other end, and a datagram for it: a header of type 1, seq 0 and ack 0, and a payload
 module _ (j i segments clock : ℕ) (o : openRefusal segments clock ≡ none) (bytes : Bytes) (some-bytes : 1 ≤ length bytes) (one-piece : length bytes ≤ 1_380) (idFits : Id j) where
   other : End
   other = fresh j i segments clock

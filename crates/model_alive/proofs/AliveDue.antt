@@ -76,7 +76,7 @@ all-wait a (suc k) m e l w = go (get (e .sender .outgoing) m) refl (λ x l w f n
         loses n r x y (inl (d, q)) = subst (λ (u : Packet). u .marks .waiting ≡ true) q refl
         loses n r x y (inr (d, q)) = w n r x (omega arith) q
 
--- a pass fails on a packet that it had not reached before, so that one is as it was when the pass began
+-- a pass fails on a packet that it had not reached before, so the packet is as it was when the pass began
 abbrev FailsFrom : ℕ → Slots Packet → Type 0
 FailsFrom m s = (j : ℕ) × (q : Packet) × (m ≤ j) × (get s j ≡ some q) × (q .marks .waiting ≡ false) × (5 < q .marks .transmits)
 
@@ -145,7 +145,7 @@ module _ (n : ℕ) where
           (λ t.
           rec (lost m p e) (insert-length (e .sender .outgoing) m (marked lostMarks p) ∙ l) (same-marked o m p (e .sender .outgoing) l z h)))
 
--- nothing is in flight where all wait
+-- if all packets wait, nothing is in flight
 sum-zero : (s : Slots Packet) → ((i : ℕ) (x : Numbered Packet) → getD s i none ≡ some x → x .value .marks .waiting ≡ true) → sum inflightOf s ≡ 0
 sum-zero [] h = refl
 sum-zero (none ∷ s) h = sum-zero s (λ i x e. h (suc i) x e)
@@ -170,7 +170,7 @@ flush-ending (suc k) m e = go (get (e .sender .outgoing) m) (λ x. flush-ending 
         (λ w. by-test Q (fits p (e .sender)) (flushLoop k (suc m) (flushed m p e)) e (λ q. rec (flushed m p e)) (λ q. refl))
         (λ w. rec e)
 
--- flushing takes nothing from the queue
+-- flushing removes nothing from the queue
 flush-adds : (x : Entry) (k m : ℕ) (e : End) → List·Memᴰ x (e .queue .entries) → List·Memᴰ x ((flushLoop k m e) .queue .entries)
 unfolding flushLoop
 flush-adds x zero m e h = h
@@ -194,7 +194,7 @@ fits-now : (p : Packet) (e : End) → e .sender .inflight + length (p .bytes) �
 unfolding fits
 fits-now p e l = le-leb (e .sender .inflight + length (p .bytes)) (e .sender .cwnd) l
 
--- flushing queues the lowest stored number, where it waits and nothing is in flight
+-- flushing queues the lowest stored number, if it waits and nothing is in flight
 queued : (k m : ℕ) (e : End) → Facts e → (n : ℕ) (p : Packet) → m ≤ n → n < m + k → get (e .sender .outgoing) n ≡ some p → p .marks .waiting ≡ true
     → e .sender .inflight ≡ 0 → ((j : ℕ) → m ≤ j → j < n → get (e .sender .outgoing) j ≡ none)
     → List·Memᴰ (packet n (length (p .bytes))) ((flushLoop k m e) .queue .entries)

@@ -1,5 +1,5 @@
--- A write on a fresh stream is accepted up to the window. The idea: the first piece goes at inflight 0, a second one follows only
--- a full first one and finds 1,400, a third one follows only a full second one and finds 2,800.
+-- A write on a fresh stream is accepted up to the window. The idea: the first piece goes at inflight 0; a second one follows only a full
+-- first one, at inflight 1,400; a third one follows only a full second one, at 2,800, and does not go.
 use Prim.Native.Nat.{ℕ, zero, suc, _+_, _-_, _≤_, _<_, min}
 use native.Mathlib.Nat.{le-refl}
 use native.Mathlib.Decide.{decLe}
@@ -22,7 +22,7 @@ use Rattle.model.proofs.Gate.{gate-open, and-true}
 use Rattle.model.proofs.NotDead.{turn}
 use Rattle.model_rules.proofs.NeverBroken.{never-broken}
 
--- a loop that does nothing
+-- the loop stops when no byte is left or a piece does not go
 
 none-left : (k : ℕ) (bytes : Bytes) (e : End) → length bytes ≡ 0 → (writeLoop k bytes e) .count ≡ 0
 unfolding writeLoop
@@ -36,7 +36,7 @@ stop zero bytes e g = refl
 stop (suc k) [] e g = refl
 stop (suc k) (b ∷ bytes) e g = rw g refl
 
--- a sender that has sent n packets of i bytes since its stream was fresh
+-- a sender that has sent n packets, i bytes in all, since its stream was fresh
 
 pub record Sends (n i : ℕ) (s : Sender) : Type 0 where
   pub seq : s .seq ≡ n

@@ -1,5 +1,5 @@
--- Runs over a line that carry bytes: 01's example session is computed, and the run of one piece goes by what each of its calls answers
--- (AliveCarried.antt), the histories being made of those answers.
+-- Runs over a line that carry bytes: 01's example session is computed; the run of one piece follows from what each of its calls answers
+-- (AliveCarried.antt), since the histories are made of those answers.
 use Prim.Native.Nat.{ℕ, zero, suc, _≤_}
 use native.Mathlib.Omega.{arith}
 use mathlib.Core.Path.{_≡_, refl, sym, ap, _∙_, subst}
@@ -37,7 +37,7 @@ session-carries =
       ack = refl;
     }
 
--- bytes of one piece are cut into one
+-- the bytes of one piece are cut into one piece
 cut-one : (k : ℕ) (bytes : Bytes) → 1 ≤ k → 1 ≤ length bytes → length bytes ≤ 1_380 → cut k 1_380 bytes ≡ bytes ∷ []
 cut-one zero bytes a l m = absurd (omega arith)
 cut-one (suc k) [] a l m = absurd (omega arith)

@@ -1,5 +1,5 @@
--- Facts that keep the definitions alive: a stream that did nothing would break none of the promises on safety, and it is none of
--- these. Statements only: the proofs are proofs/Alive*.antt.
+-- Progress: a stream that did nothing would break no safety promise; these facts rule it out. Statements only: the proofs are
+-- proofs/Alive*.antt.
 use Prim.Native.Nat.{ℕ, _≤_, _<_, min}
 use mathlib.Core.Path.{_≡_}
 use mathlib.Core.List.{List, List·Memᴰ}
@@ -53,7 +53,7 @@ pub record Exhausted (s : Slots Packet) : Type 0 where
   pub sent : packet .marks .waiting ≡ false
   pub tries : 5 < packet .marks .transmits
 
--- A drive whose timer is due once the acks are settled, on a stream that then stores a packet, fails with TimedOut on one that was sent
+-- If the timer is due once a drive has settled the acks, and a packet is then stored, the drive fails with TimedOut on one that was sent
 -- too often, or queues the lowest one.
 abbrev pub DueDrive : Type 0
 DueDrive =

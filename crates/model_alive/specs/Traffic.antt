@@ -1,5 +1,6 @@
--- The hypotheses of the two-end theorem (`OverALine` of two opened ends, model_ends/specs/TwoEnds.antt) are satisfiable by runs in which bytes written at one
--- end are read at the other: 01's example session, and one piece of any bytes. Statements only: the proofs are proofs/Traffic.antt.
+-- The hypotheses of the two-end theorem (`OverALine` of two opened ends, model_ends/specs/TwoEnds.antt) are satisfiable by runs in which
+-- bytes written at one end are read at the other: 01's example session, and one piece of any bytes. Statements only: the proofs are
+-- proofs/Traffic.antt.
 use Prim.Native.Nat.{ℕ, _≤_}
 use mathlib.Core.Path.{_≡_}
 use mathlib.Core.List.{List, [], _∷_}
@@ -23,7 +24,7 @@ pub record CarriesOnce (bytes sent : Bytes) (commands : List Command) (start : E
   pub brought : (run commands start) .b .past .brought ≡ 0 ∷ []
   pub ack : (run commands start) .b .end .receiver .ack ≡ 1
 
--- 01, 'The session program': the example's commands, `hand` being the delivery of the datagram that end 0 took
+-- 01, 'The session program': the example's commands; `hand` delivers the datagram that end 0 took
 abbrev pub session : List Command
 session =
     onA (writeCall aaa)

@@ -1,1 +1,1 @@
-// What the calls of the model do bring about: statements in specs/, theorems in proofs/; no code.
+// The progress that the model's calls make: statements in specs/, theorems in proofs/; no code.

@@ -1,6 +1,6 @@
--- The invariant of two ends over a line, for one direction and for both. The idea: whatever was ever taken, queued or stored says
--- only what stays true (pieces and acks only grow), so a copy may come at any time; what the receiver has read and holds are the
--- sender's pieces, and what the receiver has not acknowledged the sender still stores.
+-- The invariant of two ends over a line, for one direction and for both. The idea: whatever was ever taken, queued or stored claims only
+-- what stays true (pieces and acks only grow), so a copy may arrive at any time; what the receiver has read or holds are the sender's
+-- pieces, and the sender still stores what the receiver has not acknowledged.
 use Prim.Native.Nat.{ℕ, _+_, _≤_, _<_}
 use mathlib.Core.Path.{_≡_}
 use mathlib.Core.Logic.{_≢_, _⊎_}
@@ -16,13 +16,13 @@ use Rattle.model.specs.Stream.{Packet, Held, Entry, state, packet, Receiver, En
 use Rattle.model_ends.specs.TwoEnds.{History}
 use Rattle.model.proofs.Lists.{All}
 
--- a value is there under this number
+-- there is a value under this number
 abbrev pub There : {A : Type 0} → Slots A → ℕ → Type 0
 There {A} s n = (v : A) × (get s n ≡ some v)
 
 -- the end that sends
 
--- a datagram of an end that sends to the id `remote`, has these pieces and has acknowledged up to `ack`
+-- a datagram from an end that sends to the id `remote`, has these pieces and has acknowledged up to `ack`
 pub record Datagram (remote : ℕ) (pieces : List Bytes) (ack : ℕ) (bytes : Bytes) : Type 0 where
   pub header : Header
   pub payload : Bytes
@@ -48,7 +48,7 @@ pub record PieceAt (remote : ℕ) (pieces : List Bytes) (ack number : ℕ) (byte
   pub is-piece : number < length pieces
   pub encoded : bytes ≡ headerBytes (dataHeader remote number made-at) ++ getD pieces number []
 
--- the pieces are what was accepted
+-- the pieces joined are the accepted bytes
 pub record Pieces (remote seq : ℕ) (pieces : List Bytes) (accepted : Bytes) : Type 0 where
   pub remote-fits : remote ≤ 4_294_967_295
   pub numbered : length pieces ≡ seq
@@ -78,7 +78,7 @@ pub record HeldPiece (readCursor : ℕ) (pieces : List Bytes) (brought : List �
   pub is-piece : number < length pieces
   pub payload : h .payload ≡ getD pieces number []
   pub offset-fits : h .offset ≤ length (h .payload)
-  -- only the packet at the read cursor has been read in part
+  -- only the packet at the read cursor may be partly read
   pub unread : number ≢ readCursor → h .offset ≡ 0
   pub was-brought : List·Memᴰ number brought
 
@@ -93,7 +93,7 @@ pub record Received (ack readCursor : ℕ) (incoming : Slots Held) (pieces : Lis
   -- what is in order is held
   pub in-order : (n : ℕ) → readCursor ≤ n → n < ack → There incoming n
   pub held : (n : ℕ) (h : Held) → get incoming n ≡ some h → HeldPiece readCursor pieces brought n h
-  -- what was read are the pieces before the read cursor and the front part of the one at it
+  -- the bytes read are the pieces before the read cursor and the front part of the one at it
   pub reads-are : reads ≡ joined (take readCursor pieces) ++ take (offsetOf (get incoming readCursor)) (getD pieces readCursor [])
   pub below-ack : (n : ℕ) → n < ack → List·Memᴰ n brought
   pub from-ack : (n : ℕ) → List·Memᴰ n brought → (n < ack) ⊎ There incoming n
@@ -101,11 +101,11 @@ pub record Received (ack readCursor : ℕ) (incoming : Slots Held) (pieces : Lis
 abbrev pub ReceivedBy : Receiver → List Bytes → Bytes → List ℕ → Type 0
 ReceivedBy r pieces reads brought = Received (r .ack) (r .readCursor) (r .incoming) pieces reads brought
 
--- the packet that comes next in order is not held
+-- the next packet in order is not held
 abbrev pub AckMissing : Receiver → Type 0
 AckMissing r = get (r .incoming) (r .ack) ≡ none
 
--- what lies between the sender's numbers and the receiver's ack
+-- how the sender's numbers and store relate to the receiver's ack
 pub record Outstanding (seq remoteAcked largestAck : ℕ) (outgoing : Slots Packet) (ack : ℕ) : Type 0 where
   pub slots : length outgoing ≡ ceiling
   pub window : seq ≤ remoteAcked + ceiling

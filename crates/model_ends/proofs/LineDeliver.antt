@@ -1,5 +1,5 @@
--- A delivery keeps the invariant of both directions. A datagram that the other end gave is read back field by field; it brings a
--- piece, an ack that the other end has reached, and no SACK blocks. A refused delivery changes nothing.
+-- A delivery keeps the invariant of both directions. A datagram from the other end is read back field by field; it brings a piece, an ack
+-- that the other end has reached, and no SACK blocks. A refused delivery changes nothing.
 use Prim.Native.Nat.{ℕ, _+_, _≤_, _<_}
 use native.Mathlib.Omega.{arith}
 use mathlib.Core.Path.{_≡_, refl, sym, ap, _∙_, subst, subst₂}
@@ -42,7 +42,7 @@ data-in-reach datagram clock e w d =
 abbrev dataOf : Header → List ℕ
 dataOf h = cond (hasType 1 (h .typ)) (h .seq ∷ []) []
 
--- what DATA brings is one of these pieces
+-- DATA brings one of these pieces
 abbrev IsPiece : List Bytes → Header → Bytes → Type 0
 IsPiece pieces h payload = hasType 1 (h .typ) ≡ true → (h .seq < length pieces) × (payload ≡ getD pieces (h .seq) [])
 
@@ -53,7 +53,7 @@ module _ (f : End) (k : History) where
   none-brought : (e : End) (g : History) → Both e g f k → Both e (withReceived (g .reads) (g .brought ++ []) g) f k
   none-brought e g i = same-brought e g (g .brought ++ []) (sym (append-nil (g .brought))) i
 
-  -- DATA of the other end
+  -- DATA from the other end
   both-data : (h : Header) (payload : Bytes) (e : End) (g : History)
       → IsPiece (k .pieces) h payload
       → (hasType 1 (h .typ) ≡ true → h .seq < e .receiver .readCursor + ceiling)
@@ -75,7 +75,7 @@ module _ (f : End) (k : History) where
           (both-received e g f k r (g .reads) (g .brought ++ (h .seq ∷ [])) (m .ack-grows) (m .received) (m .ack-missing) i)
       go false q = none-brought e g i
 
-  -- a datagram of the other end: no SACK blocks, a piece if it is DATA, an ack that has been reached
+  -- a datagram from the other end: no SACK blocks, a piece if it is DATA, an ack that has been reached
   both-incoming : (clock : ℕ) (h : Header) (payload : Bytes) (e : End) (g : History)
       → hasType 4 (h .typ) ≡ false
       → IsPiece (k .pieces) h payload

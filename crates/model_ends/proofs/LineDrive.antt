@@ -1,5 +1,5 @@
--- A drive and a close keep the invariant of both directions: they change only what the end sends. Settling removes numbers that the
--- other end's ack is past; timeouts and flushing change marks and queue what is stored; ending queues a state packet.
+-- A drive and a close keep the invariant of both directions: they change only what the end sends. Settling removes numbers below the other
+-- end's ack; timeouts and flushing change marks and queue what is stored; ending queues a state packet.
 use Prim.Native.Nat.{ℕ, zero, suc, _+_, _-_, _≤_, _<_}
 use native.Mathlib.Omega.{arith}
 use mathlib.Core.Path.{_≡_, refl}

@@ -1,5 +1,5 @@
--- A read keeps the invariant of both directions, as does any replacement of an end's receiving part: in the direction that comes in
--- the receiver changed, in the other one the end's own ack grew.
+-- A read keeps the invariant of both directions, as does any replacement of an end's receiving part: in the incoming direction the receiver
+-- changed, in the outgoing one the end's own ack grew.
 use Prim.Native.Nat.{ℕ, _≤_}
 use native.Mathlib.Omega.{arith}
 use mathlib.Core.Path.{_≡_, sym, subst}

@@ -164,7 +164,7 @@ module _ {pieces : List Bytes} {reads : Bytes} {brought : List ℕ} where
 
 -- a payload is absorbed
 
--- what a change of the receiver's record keeps, where the ack was `before`
+-- what a change of the receiver's record keeps; `before` is the ack before it
 pub record Moved (before : ℕ) (pieces : List Bytes) (reads : Bytes) (brought : List ℕ) (r : Receiver) : Type 0 where
   pub received : ReceivedBy r pieces reads brought
   pub ack-missing : AckMissing r

@@ -1,5 +1,5 @@
--- The sender's part of the invariant: every small step of an end that sends keeps `OneWay`. What is stored, queued or taken stays
--- right as pieces are added and the end's own ack grows; a packet leaves the store only where the receiver's ack is past it.
+-- The sender's part of the invariant: every small step of the sending end keeps `OneWay`. What is stored, queued or taken stays valid as
+-- pieces are added and the end's own ack grows; a packet leaves the store only when the receiver's ack is past it.
 use Prim.Native.Nat.{ℕ, suc, _+_, _-_, _≤_, _<_, zero-le}
 use native.Mathlib.Nat.{le-refl}
 use native.Mathlib.Decide.{ℕ-discrete, decLt}
@@ -106,7 +106,7 @@ state-datagram : (remote : ℕ) (pieces : List Bytes) (ack seq : ℕ) (b : Bool)
 state-datagram remote pieces ack seq true l = plain-datagram remote pieces ack seq 2 (omega arith) refl refl l
 state-datagram remote pieces ack seq false l = plain-datagram remote pieces ack seq 0 (omega arith) refl refl l
 
--- a queue, what was taken, a store: the same
+-- the same for a queue, for what was taken and for a store
 module _ (remote : ℕ) (pieces more : List Bytes) (ack later : ℕ) (l : ack ≤ later) where
   entry-later : (x : Entry) → QueueEntry remote pieces ack x → QueueEntry remote (pieces ++ more) later x
   entry-later (state b) s = datagram-later more later l b s
@@ -192,7 +192,7 @@ module _ (e : End) (g : History) (f : End) (k : History) where
         outstanding = w .outstanding;
       }
 
-  -- stored numbers lie in the window
+  -- stored numbers are less than 32 past remote acked
   within : OneWay e g f k → (j : ℕ) (p : Packet) → get (e .sender .outgoing) j ≡ some p → (e .sender .remoteAcked ≤ j) × (j < e .sender .remoteAcked + ceiling)
   within w j p q =
       let (u, v) = w .stored j p q in
@@ -271,7 +271,7 @@ module _ (e : End) (g : History) (f : End) (k : History) where
       other : (j : ℕ) (q : Packet) → get (e .sender .outgoing) j ≡ some q → j ≢ e .sender .remoteAcked
       other j q z y = no-some gone (ap (get (e .sender .outgoing)) (sym y) ∙ z)
 
-  -- an ack that the receiver has reached is noted
+  -- an ack that the receiver has reached is recorded
   pub one-way-acked : (h : Header) → h .ack ≤ f .receiver .ack → OneWay e g f k → OneWay (withSender (onAckSender h (e .sender)) e) g f k
   one-way-acked h l w =
       record {

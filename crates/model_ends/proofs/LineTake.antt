@@ -1,5 +1,5 @@
--- A take keeps the invariant of both directions: each datagram that it gives is one of the end's. The answer has only their bytes
--- and a segment size; cutting those bytes gives the datagrams back, since all have one length, which is not 0.
+-- A take keeps the invariant of both directions: each datagram that it gives is one of this end's. The answer has only their bytes and a
+-- segment size; cutting those bytes gives the datagrams back, since all have the same length, which is not 0.
 use Prim.Native.Nat.{ℕ, zero, suc, _≤_, _<_, min, zero-le}
 use native.Mathlib.Nat.{le-refl}
 use native.Mathlib.Omega.{arith}
@@ -28,7 +28,7 @@ abbrev withTaken : List Bytes → History → History
 withTaken datagrams g =
     record { accepted = g .accepted; pieces = g .pieces; reads = g .reads; taken = g .taken ++ datagrams; brought = g .brought }
 
--- the packet of an entry is there or has left
+-- an entry is taken whose packet is there or has left
 abbrev entryTaken : ℕ → End → Option Packet → Taken
 entryTaken n e o =
     on o (record { datagrams = []; end = e })

@@ -1,5 +1,5 @@
--- A write keeps the invariant of both directions. The pieces that went are what the accepted bytes are when cut at 1,380 bytes: the
--- loop and the cut are compared piece by piece.
+-- A write keeps the invariant of both directions. The pieces that went are the accepted bytes cut at every 1,380 bytes: the loop and the
+-- cut are compared piece by piece.
 use Prim.Native.Nat.{ℕ, zero, suc, _+_, _≤_}
 use native.Mathlib.Decide.{decLe}
 use native.Mathlib.Omega.{arith}
@@ -59,7 +59,6 @@ cut-front k bytes count e = rw (front bytes count) (go (decLe 1_380 (length byte
         (rw append-nil (take-all 1_380 (piece bytes) r))
         (rw append-nil (drop-of-length-le (piece bytes) r)))
 
--- a piece that goes has room
 -- the history after `count` bytes were accepted
 abbrev withCount : (k count : ℕ) → Bytes → History → History
 withCount k count bytes g =

@@ -1,6 +1,6 @@
--- Demand 3, the two-end theorem: its proof. Every call keeps the invariant of both directions (`Both`, in Line.antt); from one
--- direction follows what is promised of it, where reads alone are run on the receiver to give what is unread in order.
--- That no such read is refused is the invariant of one end (model_rules/proofs/Invariant.antt).
+-- The proof of demand 3, the two-end theorem. Every call keeps the invariant of both directions (`Both`, in Line.antt). The promise for a
+-- direction follows from its half; what is unread in order comes from running reads alone on the receiver, and none of them is refused, by
+-- the invariant of one end (model_rules/proofs/Invariant.antt).
 use Prim.Native.Nat.{ℕ, zero, suc, _-_, _≤_, _<_, zero-le}
 use native.Mathlib.Nat.{le-refl}
 use native.Mathlib.Omega.{arith}
@@ -82,7 +82,7 @@ all-getD P [] d z a n = z
 all-getD P (x ∷ xs) d z a zero = a .0
 all-getD P (x ∷ xs) d z a (suc n) = all-getD P xs d z (a .1) n
 
--- where nothing is held at the read cursor a read puts nothing
+-- if nothing is held at the read cursor, a read puts nothing
 read-none : (k room : ℕ) (r : Receiver) → get (r .incoming) (r .readCursor) ≡ none → (readLoop k room r) .bytes ≡ []
 unfolding readLoop
 read-none zero room r z = refl
@@ -98,7 +98,7 @@ module _ (pieces : List Bytes) (brought : List ℕ) (short : All (λ p. length p
   nothing-left reads bytes readCursor ack incoming e z q g =
       sym (append-nil reads) ∙ ap (λ (x : Bytes). reads ++ x) (sym z) ∙ e ∙ rw (q, g) (append-nil (joined (take ack pieces)))
 
-  -- a read that puts nothing has nothing left
+  -- if a read puts nothing, all that is in order has been read
   puts-none : (r : Receiver) (reads : Bytes) (x : Got) → ReceivedBy r pieces reads brought
       → ReadGives ceiling r 1_380 pieces reads brought x → x .bytes ≡ [] → reads ≡ joined (take (r .ack) pieces)
   puts-none r reads x i t z = go (t .fills (let u = ack-in-reach i in omega arith))
@@ -196,7 +196,7 @@ carried s r v w =
         (sym (unread-all pieces (r .past .brought) (w .pieces .short) (suc (ack - r .end .receiver .readCursor)) (r .end) reads v (le-refl _) (w .ack-missing) (w .received)))
         ∙ append-assoc reads (unreadInOrder (r .end)) (joined (drop ack pieces))
 
-    -- behind its header a stored packet is its piece
+    -- after its header, a stored packet is its piece
     in-piece : (n : ℕ) (p : Packet) → get (s .end .sender .outgoing) n ≡ some p → drop 20 (p .bytes) ≡ getD pieces n []
     in-piece n p e = ap (drop 20) (w .stored n p e .1 .encoded) ∙ payload-back _ (getD pieces n [])
 

@@ -1,6 +1,6 @@
--- Demand 3, the two-end theorem: whatever the line loses, repeats, delays or reorders, no byte is lost, shifted or invented.
--- The statement is `TwoEnds`, at the bottom; above it stand its terms, in 01's words ('What the contracts say', 4). Statements
--- only: the proof is proofs/TwoEnds.antt.
+-- Demand 3, the two-end theorem: whatever the line loses, repeats, delays or reorders, no byte is lost, shifted or invented. The statement
+-- is `TwoEnds`, at the bottom; above it are its terms, in 01's words ('What the contracts say', 4). Statements only: the proof is
+-- proofs/TwoEnds.antt.
 use Prim.Native.Nat.{ℕ, zero, suc, _-_, _≤_, _<_}
 use mathlib.Core.Path.{_≡_}
 use mathlib.Core.List.{List, [], _∷_, _++_, List·Memᴰ}
@@ -23,7 +23,7 @@ use Rattle.model.specs.Calls.{Call, writeCall, deliverCall, driveCall, takeCall
 
 -- one end with its past
 
--- what an end's calls and answers have been, as far as the statement speaks of it
+-- an end's past calls and answers, as far as the statement needs them
 pub record History : Type 0 where
   -- the bytes that writes accepted
   pub accepted : Bytes
@@ -122,15 +122,15 @@ abbrev pub Fits : Command → Ends → Type 0
 Fits (onA c) w = Brings c (w .a) (w .b)
 Fits (onB c) w = Brings c (w .b) (w .a)
 
--- every delivery of the list is such a one
+-- every delivery in the list is one of these
 abbrev pub OverALine : List Command → Ends → Type 0
 OverALine [] w = Unit {0}
 OverALine (c ∷ cs) w = Fits c w × OverALine cs (step c w)
 
 -- what is promised
 
--- "Unread in order are the bytes that reads alone, 1,380 at a time, would still put, up to the first that puts none." Each such
--- read but the last finishes a packet, so one more than the packets in order are enough.
+-- "Unread in order are the bytes that reads alone, 1,380 at a time, would still put, up to the first that puts none." Each such read but
+-- the last finishes a packet, so one read more than there are packets in order is enough.
 abbrev pub unreadLoop : ℕ → End → Bytes
 unreadLoop zero e = []
 unreadLoop (suc k) e = let r = read 1_380 e in cond (isEmpty (r .bytes)) [] (r .bytes ++ unreadLoop k (r .end))
@@ -142,7 +142,7 @@ unreadInOrder e = unreadLoop (suc (e .receiver .ack - e .receiver .readCursor)) 
 abbrev pub StoredBy : Side → ℕ → Bytes → Type 0
 StoredBy x n piece = (p : Packet) × (get (x .end .sender .outgoing) n ≡ some p) × (drop 20 (p .bytes) ≡ piece)
 
--- where a packet at or past the receiver's ack still is
+-- the sender still stores a packet at or past the receiver's ack
 abbrev pub StillStored : (sender receiver : Side) → ℕ → Bytes → Type 0
 StillStored s r n piece = StoredBy s n piece
 
@@ -152,14 +152,14 @@ pub record Carried (s r : Side) : Type 0 where
   -- accepted = read + unread in order + packets at or past the receiver's ack, "between byte sequences: + joins them, packets in
   -- number order"
   pub accepted : s .past .accepted ≡ r .past .reads ++ (unreadInOrder (r .end) ++ joined (drop (r .end .receiver .ack) (s .past .pieces)))
-  -- the packets are what was accepted
+  -- the packets joined are the accepted bytes
   pub pieces : joined (s .past .pieces) ≡ s .past .accepted
   -- "The packets are the pieces that went, numbered from 0 in order over all writes": the next packet's number is how many went
   pub numbered : s .end .sender .seq ≡ length (s .past .pieces)
   -- the sender still stores each of those packets
   pub kept : (n : ℕ) → r .end .receiver .ack ≤ n → n < length (s .past .pieces) → StillStored s r n (getD (s .past .pieces) n [])
-  -- "a packet stored or held is there under its number, with just that piece's bytes as payload": each one that the sender stores or
-  -- the receiver holds, whichever numbers they are
+  -- "a packet stored or held is there under its number, with just that piece's bytes as payload": every packet that the sender stores or
+  -- the receiver holds, whatever its number
   pub stored : (n : ℕ) (p : Packet) → get (s .end .sender .outgoing) n ≡ some p
       → (n < length (s .past .pieces)) × (drop 20 (p .bytes) ≡ getD (s .past .pieces) n [])
   pub held : (n : ℕ) (h : Held) → get (r .end .receiver .incoming) n ≡ some h
@@ -168,7 +168,7 @@ pub record Carried (s r : Side) : Type 0 where
   pub below-ack : (n : ℕ) → n < r .end .receiver .ack → List·Memᴰ n (r .past .brought)
   pub ack-missing : List·Memᴰ (r .end .receiver .ack) (r .past .brought) → ⊥
 
--- 32 bits hold an id
+-- an id fits 32 bits
 abbrev pub Id : ℕ → Type 0
 Id n = n ≤ 4_294_967_295
 
@@ -176,8 +176,8 @@ Id n = n ≤ 4_294_967_295
 abbrev pub bothOpened : (i j segmentsA segmentsB clockA clockB : ℕ) → Ends
 bothOpened i j segmentsA segmentsB clockA clockB = record { a = opened i j segmentsA clockA; b = opened j i segmentsB clockB }
 
--- For two ends opened with each other's ids, at ceilings and clocks of their own that open accepts, and every list of calls on
--- either over a line: all of it holds with a as sender, and with b as sender.
+-- For two ends opened with each other's ids, each with a ceiling and a clock that open accepts, and every list of calls on either over a
+-- line: `Carried` holds with a as sender, and with b as sender.
 abbrev pub TwoEnds : Type 0
 TwoEnds =
     (i j segmentsA segmentsB clockA clockB : ℕ)

@@ -1,1 +1,1 @@
-// What two ends of the model carry: definitions in specs/, theorems in proofs/; no code.
+// Two ends of the model and the bytes they carry: definitions in specs/, theorems in proofs/; no code.

@@ -1,5 +1,5 @@
--- What calls from a fresh stream also keep, apart from the invariant: an error is set just when the local side is closed, and
--- only a stream with an error has ended (`ending-after`). The one step that sets an error closes the local side with it.
+-- What calls from a fresh stream also keep, apart from the invariant: an error is set exactly when the local side is closed, and only a
+-- stream with an error has ended (`ending-after`). The one step that sets an error also closes the local side.
 use Prim.Native.Nat.{ℕ, zero, suc, _+_, _-_}
 use mathlib.Core.Path.{_≡_, refl, sym}
 use mathlib.Core.List.{List, [], _∷_}
@@ -33,7 +33,7 @@ localIsClosed remoteClosed = false
 localIsClosed bothClosed = true
 
 pub record EndingFacts (x : Ending) : Type 0 where
-  -- an error is set just when the local side is closed
+  -- an error is set exactly when the local side is closed
   pub closed : isSet (x .error) ≡ localIsClosed (x .state)
   -- a stream that has ended has an error
   pub with-error : x .ended ≡ true → isSet (x .error) ≡ true

@@ -1,10 +1,10 @@
--- The invariant of one end: what every call keeps, and that the rules of the records follow from it (`invariant-rules`).
--- It says more than 01's rules, which a read and a take alone would not keep: a read could break "read cursor ≤ ack" if number ack
--- were held, and a take could break "transmits are at most 7". So besides the rules: number ack is not held; a packet's transmits
--- and its queue entries together are at most 7, and at most 6 while it waits; with nothing left to take, a queued packet is queued
--- once, was never transmitted and does not wait; and, for the words of the records, seq and the queued numbers fit 32 bits. Calls
--- other than a read and a take keep the rules with these facts or without them, by the same steps: `more` says whether they are
--- there. Without them the invariant is the rules, for stores of 32 slots (`rules-kept`, `kept-rules`).
+-- The invariant of one end, which every call keeps; the rules of the records follow from it (`invariant-rules`). It says more than 01's
+-- rules, because the rules alone are not enough for a read or a take to keep them: a read could break "read cursor ≤ ack" if number ack
+-- were held, and a take could break "transmits are at most 7". So besides the rules: number ack is not held; a packet's transmits and queue
+-- entries together are at most 7, and at most 6 while it waits; with nothing left to take, a queued packet is queued once, was never
+-- transmitted and does not wait; and, for the words of the records, seq and the queued numbers fit 32 bits. The other calls keep the rules
+-- with or without these facts, by the same steps: `more` says whether the facts are included. Without them the invariant is exactly the
+-- rules, for stores of 32 slots (`rules-kept`, `kept-rules`).
 use Prim.Native.Nat.{ℕ, suc, _+_, _^_, _≤_, _<_}
 use native.Mathlib.Decide.{ℕ-discrete}
 use native.Mathlib.Omega.{arith}
@@ -25,7 +25,7 @@ use Rattle.model.proofs.SlotSums.{SlotsOk}
 use Rattle.model_rules.proofs.Ranges.{CwndInRange, InSegments}
 use Rattle.model.proofs.RulesKept.{rules-say, rules-said, distinct-few}
 
--- how often a number stands in the queue
+-- how often a number is in the queue
 abbrev pub count : ℕ → List Entry → ℕ
 count n [] = 0
 count n (state b ∷ q) = count n q
@@ -42,9 +42,9 @@ pub record StoredFacts (remoteAcked seq clock n : ℕ) (p : Packet) : Type 0 whe
 
 -- packet n, stored: it has transmits to spare for its entries
 pub record Spare (q : List Entry) (n : ℕ) (p : Packet) : Type 0 where
-  -- each entry will be one transmit more
+  -- taking an entry adds a transmit
   pub entries : p .marks .transmits + count n q ≤ 7
-  -- a packet that waits will be queued once more
+  -- a waiting packet will be queued once more
   pub waits : p .marks .waiting ≡ true → p .marks .transmits + count n q ≤ 6
 
 -- packet n, held
@@ -55,7 +55,7 @@ pub record HeldFacts (readCursor : ℕ) (n : ℕ) (h : Held) : Type 0 where
   pub most : length (h .payload) ≤ 1_380
   pub offset : h .offset ≤ length (h .payload)
 
--- packet n, stored, if it is queued: so a timeout leaves it room for that entry and one more
+-- packet n, stored, if it is queued: after a timeout it still has room for that entry and one more
 pub record QueuedOnce (q : List Entry) (n : ℕ) (p : Packet) : Type 0 where
   pub once : 0 < count n q → (count n q ≤ 1) × (p .marks .transmits ≡ 0) × (p .marks .waiting ≡ false)
 
@@ -99,7 +99,7 @@ pub record InRanges (rtt : Rtt) (cwnd drive last : ℕ) : Type 0 where
   pub drive-last : drive ≤ last
   pub last-fits : last < 2 ^ 60
 
--- the same, of the parts of an end
+-- the same for the parts of an end
 abbrev pub StoredIn : End → ℕ → Packet → Type 0
 StoredIn e = StoredFacts (e .sender .remoteAcked) (e .sender .seq) (e .clocks .last)
 
@@ -120,7 +120,7 @@ ReceiverFacts more r =
       gap : more ≡ true → get (r .incoming) (r .ack) ≡ none;
     }
 
--- all but what is left to take
+-- everything except what is left to take
 abbrev pub FactsWith : Bool → End → Type 0
 FactsWith more e =
     record {
@@ -160,7 +160,7 @@ every-all : {A : Type 0} (P : A → Type 0) (xs : List A) → Every P xs → All
 every-all P [] a = tt
 every-all P (x ∷ xs) a = (a .0, every-all P xs (a .1))
 
--- at rest at most 32 packets are queued
+-- at rest, at most 32 packets are queued
 pub rest-few : {more : Bool} (e : End) → FactsWith more e → RestIn more e → length (numbers (e .queue .entries)) ≤ ceiling
 rest-few e g r =
     let near = g .numbers .seq-near in
@@ -212,7 +212,7 @@ kept-rules {more} e g =
 pub invariant-rules : (e : End) → Invariant e → rules e ≡ true
 invariant-rules e g = kept-rules e g
 
--- and where they hold they are the invariant without more
+-- conversely, the rules give the invariant without `more`
 pub rules-kept : (e : End) → length (e .sender .outgoing) ≡ ceiling → length (e .receiver .incoming) ≡ ceiling → rules e ≡ true → InvariantWith false e
 rules-kept e out in-slots h =
     record {

@@ -1,6 +1,6 @@
--- A delivery keeps the invariant. It acts only with nothing left to take, and runs in parts, each of which leaves it so: SACK
--- blocks, END, DATA, the header's ack. `Taking` says what the parts pass on: how many state packets there may be, and that the
--- receiver and seq are still those that the tests saw.
+-- A delivery keeps the invariant. It acts only when nothing is left to take, and each of its parts (SACK blocks, END, DATA, the header's
+-- ack) leaves it so. `Taking` is what one part passes to the next: how many state packets there may be, and that the receiver and seq are
+-- still those that the tests saw.
 use Prim.Native.Nat.{ℕ, zero, suc, _+_, _-_, _^_, _≤_, _<_, max, zero-le}
 use native.Mathlib.Omega.{arith}
 use mathlib.Core.Path.{_≡_, refl, _∙_}
@@ -67,7 +67,7 @@ taking-acked {more} clock most r seq y n e t =
 
 -- DATA
 
--- ack has not moved past what is held yet
+-- the receiver before ack moves past what is held
 abbrev Holding : Receiver → Type 0
 Holding r =
     record {
@@ -129,7 +129,7 @@ resting-ack h e l r =
       rest = r .rest;
     }
 
--- a delivery whose tests all failed
+-- a delivery that no test refuses
 
 module _ {more : Bool} (clock : ℕ) (datagram : Bytes) (h : Header) (payload : Bytes) (e : End) (g : InvariantWith more e)
     (tests : (n : ℕ) → (getD (deliverTests clock datagram h payload e) n noTest) .holds ≡ false) where

@@ -1,6 +1,6 @@
--- A drive keeps the invariant. It starts with nothing left to take, so each queued packet is queued once; settling and timeouts
--- keep that for the packets still ahead (`Driving`), flushing queues at most one entry a number (`Flushing`), and then the whole
--- queue is left to take.
+-- A drive keeps the invariant. It starts with nothing left to take, so each queued packet is queued once; settling and timeouts keep that
+-- for the packets still ahead (`Driving`), flushing adds at most one entry per number (`Flushing`), and then the whole queue is left to
+-- take.
 use Prim.Native.Nat.{ℕ, zero, suc, _+_, _-_, _^_, _≤_, _<_, zero-le}
 use native.Mathlib.Nat.{le-refl}
 use native.Mathlib.Omega.{arith}
@@ -35,7 +35,7 @@ use Rattle.model_rules.proofs.InvariantTake.{left-all}
 
 -- settling
 
--- what a drive keeps while it settles and looks at timeouts; packets from m on are as they were
+-- what a drive keeps while it settles and checks timeouts; packets from m on are as they were
 abbrev pub DrivingWith : Bool → ℕ → End → Type 0
 DrivingWith more m e =
     record {
@@ -141,7 +141,7 @@ driving-timed {more} (suc k) m e d = go (get (e .sender .outgoing) m) refl (λ x
 
 -- flushing
 
--- room in the queue for k packets more
+-- the queue has room for k more packets
 abbrev Flushing : Bool → ℕ → End → Type 0
 Flushing more k e = record { facts : FactsWith more e; states : states (e .queue .entries) ≤ 64; packets : length (numbers (e .queue .entries)) + k ≤ 64 }
 
@@ -149,7 +149,7 @@ flushing-of : {more : Bool} (m : ℕ) (e : End) → DrivingWith more m e → Flu
 flushing-of m e d =
     record { facts = d .facts; states = (let u = d .states in omega arith); packets = (let u = d .packets in omega arith) }
 
--- the window is halved and the timer set anew
+-- the window is halved and the timer restarted
 pub driving-due : {more : Bool} (clock : ℕ) (e : End) → DrivingWith more 0 e → DrivingWith more (e .sender .remoteAcked) (dueEnd clock e)
 unfolding backedOff
 driving-due clock e d =

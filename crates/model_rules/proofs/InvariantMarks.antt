@@ -30,7 +30,7 @@ use Rattle.model_rules.proofs.InvariantSteps.{count-append, fewer, coun
 -- a stored packet's marks change, and inflight with them; the queue may change
 
 module _ {more : Bool} (e : End) (g : FactsWith more e) (n : ℕ) (f : Marks → Marks) (p : Packet) (z : get (e .sender .outgoing) n ≡ some p) where
-  -- what is known of the packet
+  -- what is known about the packet
   stored-at : StoredIn e n p
   stored-at = slots-look (StoredIn e) (e .sender .outgoing) n p (g .stored) z
 
@@ -48,7 +48,7 @@ module _ {more : Bool} (e : End) (g : FactsWith more e) (n : ℕ) (f : Marks →
       by q (inl (u, v)) = d p (ap (get (e .sender .outgoing)) u ∙ z) ∙ ap (λ (x : Packet). length (x .bytes)) v
       by q (inr (u, v)) = d q v
 
-  -- no other packet has more entries in the queue than before
+  -- provided no other packet gains queue entries
   facts-marked : (inflight : ℕ) (q : Queue)
       → inflight + inflightOf p ≡ e .sender .inflight + inflightOf (marked f p)
       → ((m : ℕ) → m ≢ n → count m (q .entries) ≤ count m (e .queue .entries))
@@ -124,7 +124,7 @@ facts-flushed e n p z w g =
       below = rw numbers-append (all-append (λ m. m < e .sender .seq) (numbers (e .queue .entries)) (n ∷ []) (f .below) (r .below, tt));
     })
 
--- what is left when an entry is taken still fits
+-- the other entries still fit when one is taken
 fits-rest : (seq : ℕ) (x : Entry) (q : List Entry) → NumbersFit seq (numbers (x ∷ q)) → NumbersFit seq (numbers q)
 fits-rest seq (state b) q f = f
 fits-rest seq (packet n l) q f = record { seq-fits = f .seq-fits; below = f .below .1 }
@@ -173,7 +173,7 @@ measured-range clock p t y k =
     sample none = k
     sample (some at) = sampled-range (t .rtt) (clock - at) k (omega arith)
 
--- what holds of every packet holds of those that stay
+-- what holds for every packet holds for those that stay
 pub slots-stay : (Q : ℕ → Packet → Type 0) (s : Slots Packet) (n : ℕ) → length s ≡ ceiling → SlotsOk Q s → SlotsOk Q (remove s n)
 slots-stay Q s n l h = slots-map (λ m p. Q m p × (m ≢ n)) Q (remove s n) (λ m p k. k .0) (slots-remove Q s n l h)
 

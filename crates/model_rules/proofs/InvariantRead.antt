@@ -1,4 +1,4 @@
--- A read keeps the invariant. It changes the receiver alone, and stops before ack, which is not held; so the read cursor stays at
+-- A read keeps the invariant. It changes only the receiver, and stops before number ack, which is not held; so the read cursor stays at
 -- most ack.
 use Prim.Native.Nat.{ℕ, zero, suc, _+_, _-_, _<_}
 use native.Mathlib.Decide.{ℕ-discrete}

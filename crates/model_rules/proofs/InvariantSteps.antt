@@ -1,5 +1,5 @@
--- The steps that send keep the facts of one end: a state packet is queued, a data packet is sent; and so do another clock, window
--- or estimate. Most of the proof is what a step does to the number of queue entries of a packet.
+-- Sending keeps the facts of one end: a state packet is queued, or a data packet is sent. So does a new clock, window or estimate. Most of
+-- the proof is about how many queue entries a packet has after a step.
 use Prim.Native.Nat.{ℕ, suc, _+_, _-_, _%_, _^_, _≤_, _<_, zero-le}
 use native.Mathlib.Nat.{le-refl}
 use native.Mathlib.Omega.{arith}
@@ -69,7 +69,7 @@ absent-last n b [] ne h = rw (ne-eqb n b ne) refl
 absent-last n b (m ∷ ns) ne h =
     rw (and-left (not (eqb n m)) (absent n ns) h) (absent-last n b ns ne (and-right (not (eqb n m)) (absent n ns) h))
 
--- a number past distinct ones is one more
+-- distinct numbers below b stay distinct with b added
 distinct-last : (a b : ℕ) (ns : List ℕ) → Between a b ns → distinct ns ≡ true → distinct (ns ++ (b ∷ [])) ≡ true
 distinct-last a b [] k h = refl
 distinct-last a b (n ∷ ns) k h =
@@ -77,7 +77,7 @@ distinct-last a b (n ∷ ns) k h =
     and-true (absent-last n b ns (λ z. absurd (omega arith)) (and-left (absent n ns) (distinct ns) h))
     (distinct-last a b ns (k .1) (and-right (absent n ns) (distinct ns) h))
 
--- with no more entries a packet keeps its facts
+-- a packet keeps its facts if it gains no queue entries
 
 pub spare-fewer : {q r : List Entry} {n : ℕ} {p : Packet} → count n r ≤ count n q → Spare q n p → Spare r n p
 spare-fewer l s = let u = s .entries in record { entries = omega arith; waits = λ z. (let v = s .waits z in omega arith) }
@@ -167,7 +167,7 @@ module _ {more : Bool} (e : End) (p : Bytes) (g : FactsWith more e) (r : RestIn 
       let y = count-new (e .sender .seq) (e .sender .remoteAcked) (e .sender .seq) (e .queue .entries) (le-refl _) (r .known) in
       omega arith
 
-  -- an entry is of an older packet
+  -- entries that are queued already belong to older packets
   older : (q : List Entry) → Between (e .sender .remoteAcked) (e .sender .seq) (numbers q) → All (EntryKept (e .sender .outgoing)) q
       → All (EntryKept (sendDataPacket p e .sender .outgoing)) q
   unfolding new

@@ -1,5 +1,5 @@
--- A take keeps the invariant: a packet gets one transmit more for one queue entry less, and what is left to take stays the whole
--- queue, or the queue is empty.
+-- A take keeps the invariant: each entry taken turns one queue entry into one transmit, and afterwards the whole queue is left to take or
+-- the queue is empty.
 use Prim.Native.Nat.{ℕ, zero, suc, _≤_, _<_, zero-le}
 use native.Mathlib.Nat.{le-refl}
 use native.Mathlib.Omega.{arith}

@@ -1,6 +1,6 @@
--- Calls from a fresh stream never break a rule of the records, and so no call meets refusal 1 (`never-broken`). The rules follow
--- from the invariant; where they hold, the first test of each call's list does not, no later one carries refusal 1, and what a
--- call answers when it acts is another outcome.
+-- Calls from a fresh stream never break a rule of the records, so no call meets refusal 1 (`never-broken`). The rules follow from the
+-- invariant. If they hold, the first test of each call does not apply, no later test has refusal 1, and a call that acts answers something
+-- else.
 use Prim.Native.Nat.{ℕ}
 use native.Mathlib.Omega.{arith}
 use mathlib.Core.Path.{_≡_, refl, sym, ap, _∙_}
@@ -34,7 +34,7 @@ use Rattle.model_rules.proofs.InvariantCalls.{open-keeps, calls-keep}
 
 -- the refusal of a call
 
--- no test of the list carries refusal 1
+-- no test of the list has refusal 1
 abbrev Others : List Test → Type 0
 Others ts = every (λ t. ltb 1 (numberOf (t .refusal))) ts ≡ true
 

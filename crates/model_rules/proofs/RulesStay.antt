@@ -1,6 +1,6 @@
 -- A write, a delivery, a drive and a close keep the rules of the records from any end that keeps them (`rules-stay`): without its further
--- facts the invariant is the rules, and these calls keep it with or without those. A read and a take do not (`rules-break`): one
--- end for each, computed.
+-- facts the invariant is exactly the rules, and these calls keep it with or without them. A read and a take do not (`rules-break`): one
+-- computed counterexample each.
 use mathlib.Core.Path.{_≡_, refl, sym}
 use mathlib.Core.List.{[], _∷_}
 use mathlib.Core.Option.{none}
@@ -19,7 +19,7 @@ use Rattle.model_rules.proofs.InvariantSend.{write-keeps, close-keeps}
 use Rattle.model_rules.proofs.InvariantDrive.{drive-keeps}
 use Rattle.model_rules.proofs.InvariantDeliver.{deliver-keeps}
 
--- what the invariant without more says
+-- the invariant without `more`, as slots and rules
 said : (e : End) → InvariantWith false e → HasSlots e × (rules e ≡ true)
 said e g = (record { outgoing = g .facts .slots; incoming = g .facts .receiver .slots }, kept-rules e g)
 

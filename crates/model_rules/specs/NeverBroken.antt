@@ -1,5 +1,5 @@
--- The rules of the records and the calls: from a fresh stream no call ever breaks them; from any end that keeps them a write, a delivery,
--- a drive and a close keep them, a read and a take need not. Statements only: the proofs are proofs/NeverBroken.antt and RulesStay.antt.
+-- Which calls keep the rules of the records: from a fresh stream all of them do; from any end that keeps the rules, a write, a delivery, a
+-- drive and a close do, but a read and a take need not. Statements only: the proofs are proofs/NeverBroken.antt and RulesStay.antt.
 use Prim.Native.Nat.{ℕ}
 use mathlib.Core.Path.{_≡_}
 use mathlib.Core.List.{List}
@@ -26,7 +26,8 @@ NeverBroken =
 
 -- from any end
 
--- 01, 'Records': "32 slots", in either store; the rules do not say it. With fewer, a write's packet counts in flight and is not stored.
+-- 01, 'Records': "32 slots", in either store; this is not one of the rules. With fewer, a written packet may count as inflight without
+-- being stored.
 pub record HasSlots (e : End) : Type 0 where
   pub outgoing : length (e .sender .outgoing) ≡ ceiling
   pub incoming : length (e .receiver .incoming) ≡ ceiling
@@ -40,8 +41,8 @@ keeping (takeCall room) = false
 keeping (readCall room) = false
 keeping closeCall = true
 
--- 01, refusal 1: "a rule of the records is broken". An end that keeps the rules, whether calls from a fresh stream led to it or not,
--- keeps them after a write, a delivery, a drive or a close: for any number of these one test is enough.
+-- 01, refusal 1: "a rule of the records is broken". An end that keeps the rules, reachable from a fresh stream or not, keeps them after a
+-- write, a delivery, a drive or a close: one test is enough for any number of these calls.
 abbrev pub RulesStay : Type 0
 RulesStay =
     (c : Call) (e : End)
@@ -50,16 +51,16 @@ RulesStay =
     → rules e ≡ true
     → let next = (answer c e) .end in HasSlots next × (rules next ≡ true)
 
--- an end that keeps the rules, but not after the call
+-- an end that keeps the rules before the call but not after it
 pub record Breaks (c : Call) : Type 0 where
   pub before : End
   pub slots : HasSlots before
   pub kept : rules before ≡ true
   pub broken : rules ((answer c before) .end) ≡ false
 
--- A read and a take do not keep the rules from every end that keeps them: where number ack is held, a read moves the read cursor past
--- ack; where a packet's transmits and its queue entries are more than 7, a take breaks "transmits are at most 7". Calls from a fresh
--- stream lead to no such end (`NeverBroken`).
+-- A read and a take do not keep the rules from every end that keeps them: if number ack is held, a read moves the read cursor past ack; if
+-- a packet's transmits and queue entries together exceed 7, a take breaks "transmits are at most 7". Calls from a fresh stream lead to no
+-- such end (`NeverBroken`).
 pub record RulesBreak : Type 0 where
   pub reads : Breaks (readCall 1)
   pub takes : Breaks (takeCall 14_000)

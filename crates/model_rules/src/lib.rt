@@ -1,1 +1,1 @@
-// What the calls of the model keep: definitions in specs/, theorems in proofs/; no code.
+// The invariants that the model's calls keep: definitions in specs/, theorems in proofs/; no code.

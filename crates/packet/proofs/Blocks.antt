@@ -1,5 +1,5 @@
--- Laws on the blocks of a payload, as a loop over them needs: the next block and the blocks after it, the end, and how many there
--- are. The idea: any number of steps that covers the bytes left gives the same blocks.
+-- Laws of the blocks of a payload, in the form that a loop over them needs: the next block and those after it, the end, and the count. The
+-- idea: any number of steps that covers the bytes left gives the same blocks.
 use Prim.Native.Nat.{ℕ, zero, suc, _+_, _-_, _/_, _≤_, _<_}
 use mathlib.Core.Path.{_≡_, refl, sym, ap, _∙_}
 use mathlib.Core.List.{List, [], _∷_}
@@ -17,7 +17,7 @@ use Rattle.packet.specs.Blocks.{Span, spanOf, blocksIn, blocksFrom, next
 abbrev step : List ℕ → List Span → List Span
 step rest more = cond (ltb 8 (length rest)) (spanOf rest ∷ more) []
 
--- where at most 8 bytes are left there is no block, whatever the steps
+-- with at most 8 bytes left there is no block, whatever the number of steps
 none : (k : ℕ) (rest : List ℕ) → length rest ≤ 8 → blocksIn k rest ≡ []
 unfolding blocksIn
 none zero rest h = refl
@@ -30,7 +30,7 @@ enough (suc j) zero rest f g = none (suc j) rest (omega arith)
 enough (suc j) (suc k) rest f g =
     ap (step rest) (enough j k (drop 8 rest) (simp length-drop (omega arith)) (simp length-drop (omega arith)))
 
--- one step, with as many steps left
+-- one step unrolled, with the same number of steps left
 unrolled : (k : ℕ) (rest : List ℕ) → length rest ≤ k → blocksIn k rest ≡ step rest (blocksIn k (drop 8 rest))
 unfolding blocksIn
 unrolled k rest f = enough k (suc k) rest f (omega arith)
@@ -44,7 +44,7 @@ blocks-next payload at h =
 pub blocks-end : (payload : List ℕ) (at : ℕ) → length payload ≤ at + 8 → blocksFrom payload at ≡ []
 blocks-end payload at h = none (length payload) (drop at payload) (simp length-drop (omega arith))
 
--- what is read at a place, by what is left there
+-- what is read at a place, by how many bytes are left there
 pub next-range : (payload : List ℕ) (at : ℕ) {start end : ℕ} → at + 8 < length payload
     → start ≡ word payload at → end ≡ word payload (at + 4) → Range start end ≡ nextBlock (blocksFrom payload at)
 next-range payload at h p q = simp (p, q, blocks-next payload at h, drop-drop 4 at payload)
@@ -52,7 +52,7 @@ next-range payload at h p q = simp (p, q, blocks-next payload at h, drop-drop 4 
 pub next-end : (payload : List ℕ) (at : ℕ) → length payload ≤ at + 8 → NoMore ≡ nextBlock (blocksFrom payload at)
 next-end payload at h = simp (blocks-end payload at h)
 
--- what an answer says of the blocks left: a range is the first of them and stands inside the payload, and at the end there is none
+-- what a result says about the blocks left: a range is the first of them and is inside the payload; at the end there is none
 pub range-inside : (payload : List ℕ) (at start end : ℕ) → nextBlock (blocksFrom payload at) ≡ Range start end → at + 8 < length payload
 range-inside payload at start end e = go (ltb (at + 8) (length payload)) refl
   where

@@ -1,5 +1,5 @@
--- Laws on the header: its 20 bytes, what a decode answers, and what an encode answers and leaves in a buffer that is long enough, in
--- one that is not, and in one that holds just a header. Each is one case of a definition.
+-- Laws of the header: its 20 bytes, what a decode returns, and what an encode returns and leaves in a buffer that is long enough, too
+-- short, or exactly a header long. Each is one case of a definition.
 use Prim.Native.Nat.{ℕ, _/_, _%_, _≤_, _<_}
 use mathlib.Core.Path.{_≡_, refl, _∙_}
 use mathlib.Core.List.{List, [], _∷_, _++_, append-nil}
@@ -25,12 +25,12 @@ pub bytes-of : (n : ℕ) {a b c d : ℕ} → a ≡ n % 256 → b ≡ n / 256 % 2
     → d ≡ n / 256 / 256 / 256 % 256 → a ∷ b ∷ c ∷ d ∷ [] ≡ leBytes 4 n
 bytes-of n p q r s = cc
 
--- four bytes and four runs of bytes, one after the other
+-- four bytes, then four runs of bytes
 pub laid : (x y z w : ℕ) {a a′ b b′ c c′ d d′ : List ℕ} → a ≡ a′ → b ≡ b′ → c ≡ c′ → d ≡ d′
     → x ∷ y ∷ z ∷ w ∷ a ++ b ++ c ++ d ≡ x ∷ y ∷ z ∷ w ∷ a′ ++ b′ ++ c′ ++ d′
 laid x y z w p q r s = cc
 
--- what a decode answers: to a short list, to another first byte, to another second byte, and to a header
+-- what a decode returns: for a short list, a wrong first byte, a wrong second byte, and a header
 pub decoded-short : (s : List ℕ) → length s < 20 → Refused BadHeader ≡ decoded s
 unfolding decoded
 decoded-short s short = simp (lt-leb 20 (length s) short)
@@ -59,7 +59,7 @@ unfolding decoded
 decoded-packet s long magic version p q r t =
     simp (le-leb 20 (length s) long, eq-eqb (getD s 0 0) 255 magic, eq-eqb (getD s 1 0) 1 version, p, q, r, t)
 
--- what is known of a list that a decode accepted
+-- what an accepted decode implies about its list
 pub record DecodeAccepted (s : List ℕ) (h : Header) : Type 0 where
   pub long : 20 ≤ length s
   pub magic : getD s 0 0 ≡ 255
@@ -82,7 +82,7 @@ decoded-accepted s h e =
     let q = both (eqb (getD s 0 0) 255) _ (p .1) in
     record { long = leb-true _ _ (p .0); magic = eqb-true _ _ (q .0); version = eqb-true _ _ (q .1); same = a .1 }
 
--- what an encode answers
+-- what an encode returns
 pub answer-long : (buf : List ℕ) → 20 ≤ length buf → outcome.Ready ≡ encodeAnswer buf
 unfolding encodeAnswer
 answer-long buf long = simp (le-ltb (length buf) 20 long)
@@ -91,7 +91,7 @@ pub answer-short : (buf : List ℕ) → length buf < 20 → outcome.Refused Shor
 unfolding encodeAnswer
 answer-short buf short = simp (lt-ltb (length buf) 20 short)
 
--- what an encode leaves
+-- what an encode leaves in the buffer
 pub encoded-long : (h : Header) (buf : List ℕ) → 20 ≤ length buf → encodedIn h buf ≡ headerBytes h ++ drop 20 buf
 unfolding encodedIn
 encoded-long h buf long = simp (le-ltb (length buf) 20 long)

@@ -1,5 +1,5 @@
--- Laws on numbers as bytes: the value and the bytes undo each other, by induction on the number of bytes, and a number at a place is
--- that of the four elements there.
+-- Laws of numbers as bytes: value and bytes undo each other, by induction on the number of bytes; and the number at a place is that of the
+-- four elements there.
 use Prim.Native.Nat.{ℕ, zero, suc, _+_, _*_, _/_, _%_, _^_, _≤_, _<_}
 use mathlib.Core.Path.{_≡_, refl, ap, _∙_}
 use mathlib.Core.List.{List, [], _∷_}
@@ -12,12 +12,12 @@ use lib.Seq.{drop-cons, getD-drop}
 use Rattle.packet.specs.LittleEndian.{le, leBytes, word}
 use Rattle.packet.specs.RoundTrip.{Bytes}
 
--- the bytes of a number have it as their value
+-- the value of a number's bytes is the number
 pub le-leBytes : (k n : ℕ) → n < 256 ^ k → le (leBytes k n) ≡ n
 le-leBytes zero n h = omega arith
 le-leBytes (suc k) n h = omega (arith, le-leBytes k (n / 256) (omega (arith, pow-suc 256 k)))
 
--- the value of some bytes is written as these bytes
+-- the bytes of a list's value are the list
 pub leBytes-le : (s : List ℕ) → Bytes s → leBytes (length s) (le s) ≡ s
 leBytes-le [] h = refl
 leBytes-le (b ∷ bs) h =
@@ -48,7 +48,7 @@ take-bytes (suc n) [] b i = lit< tt
 take-bytes (suc n) (x ∷ xs) b zero = b zero
 take-bytes (suc n) (x ∷ xs) b (suc i) = take-bytes n xs (λ j. b (suc j)) i
 
--- the bytes of the number at a place are the four that stand there
+-- the bytes of the number at a place are the four elements there
 pub word-bytes : (s : List ℕ) (at : ℕ) → Bytes s → at + 4 ≤ length s → leBytes 4 (word s at) ≡ take 4 (drop at s)
 word-bytes s at b h =
     let e : length (take 4 (drop at s)) ≡ 4 = simp (length-take, length-drop) (omega arith) in

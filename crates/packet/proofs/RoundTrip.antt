@@ -1,4 +1,4 @@
--- Encoding and decoding undo each other, as specs/RoundTrip.antt states. Decoding reads each field's bytes back; encoding writes the
+-- Encoding and decoding undo each other, as stated in specs/RoundTrip.antt. Decoding reads each field's bytes back; encoding writes the
 -- four runs of four bytes that decoding read, and the first four bytes are known.
 use Prim.Native.Nat.{ℕ, _+_, _≤_}
 use mathlib.Core.Path.{_≡_, ap, _∙_}
@@ -28,7 +28,7 @@ decode-encode h buf w long =
 cut : (s : List ℕ) (at k : ℕ) → take (4 + k) (drop at s) ≡ take 4 (drop at s) ++ take k (drop (at + 4) s)
 cut s at k = take-add 4 k (drop at s) ∙ ap (λ (r : List ℕ). take 4 (drop at s) ++ take k r) (drop-drop 4 at s)
 
--- the first 20 bytes, taken apart as a header has them
+-- the first 20 bytes, split into the parts of a header
 front : (s : List ℕ) → 20 ≤ length s
     → take 20 s
     ≡ getD s 0 0

@@ -18,8 +18,8 @@ pub record Span : Type 0 where
 abbrev pub spanOf : List ℕ → Span
 spanOf rest = record { start = word rest 0; end = word rest 4 }
 
--- 01, call 3: "read while place + 8 is below the payload length": a block stands where more than 8 bytes are left, so the last
--- 8 bytes of a payload are never one. Each block is 8 bytes, so as many steps as there are bytes are enough.
+-- 01, call 3: "read while place + 8 is below the payload length": there is a block where more than 8 bytes are left, so the last 8 bytes of
+-- a payload are never one. Each block is 8 bytes, so as many steps as there are bytes are enough.
 unfoldable pub blocksIn : ℕ → List ℕ → List Span
 blocksIn zero rest = []
 blocksIn (suc steps) rest = cond (ltb 8 (length rest)) (spanOf rest ∷ blocksIn steps (drop 8 rest)) []
@@ -32,11 +32,11 @@ blocksFrom payload at = blocksIn (length payload) (drop at payload)
 abbrev pub blocks : List ℕ → List Span
 blocks payload = blocksFrom payload 0
 
--- the first of some blocks, or the end
+-- the first of some blocks, or the end if there is none
 abbrev pub nextBlock : List Span → Block
 nextBlock [] = NoMore
 nextBlock (b ∷ bs) = Range (b .start) (b .end)
 
--- How many there are; proved in proofs/Blocks.antt.
+-- How many blocks a payload has; proved in proofs/Blocks.antt.
 abbrev pub BlockCount : Type 0
 BlockCount = (payload : List ℕ) → length (blocks payload) ≡ (length payload - 1) / 8

@@ -1,4 +1,4 @@
--- The header: its 20 bytes, what decoding answers, what encoding answers and leaves.
+-- The header: its 20 bytes, what decoding returns, what encoding returns and leaves in the buffer.
 use Prim.Native.Nat.{ℕ, _/_, _%_}
 use mathlib.Core.Path.{_≡_}
 use mathlib.Core.List.{List, _∷_, _++_}
@@ -22,7 +22,7 @@ headerBytes h =
     ∷ h .«data_offset»
     ∷ leBytes 4 (h .«stream_id») ++ leBytes 4 (h .«recv_win») ++ leBytes 4 (h .seq) ++ leBytes 4 (h .ack)
 
--- the fields that stand in the first 20 bytes
+-- the fields in the first 20 bytes
 abbrev pub fields : List ℕ → Header
 fields s =
     record {
@@ -42,15 +42,15 @@ hasHeader s = leb 20 (length s) && (eqb (getD s 0 0) 255 && eqb (getD s 1 0) 1)
 unfoldable pub decoded : List ℕ → Decoded
 decoded s = cond (hasHeader s) (Packet (fields s)) (Refused BadHeader)
 
--- Header::encode: what it answers. 01, refusal 2: "Encode has under 20 bytes".
+-- Header::encode: its result. 01, refusal 2: "Encode has under 20 bytes".
 unfoldable pub encodeAnswer : List ℕ → Outcome
 encodeAnswer buf = cond (ltb (length buf) 20) (outcome.Refused ShortBuffer) outcome.Ready
 
--- Header::encode: the buffer after it. A short one stays; "An output buffer's bytes past the count stay."
+-- Header::encode: the buffer afterwards. A short one is unchanged; "An output buffer's bytes past the count stay."
 unfoldable pub encodedIn : Header → List ℕ → List ℕ
 encodedIn h buf = cond (ltb (length buf) 20) buf (headerBytes h ++ drop 20 buf)
 
--- what an encode says of its answer and of the buffer before and after
+-- the contract of an encode: its result, and the buffer before and after
 pub record Encodes (h : Header) (before after : List ℕ) (r : Outcome) : Type 0 where
   pub answer : r ≡ encodeAnswer before
   pub buffer : after ≡ encodedIn h before

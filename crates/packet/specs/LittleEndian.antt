@@ -1,5 +1,5 @@
--- Numbers as lists of bytes, the least significant first: the value of a list, the bytes of a number, the number at a place.
--- Their laws, that each undoes the other, are in proofs/LittleEndian.antt.
+-- Numbers as lists of bytes, least significant first: the value of a list, the bytes of a number, the number at a place. The laws (each
+-- undoes the other) are in proofs/LittleEndian.antt.
 use Prim.Native.Nat.{ℕ, zero, suc, _+_, _*_, _/_, _%_}
 use mathlib.Core.List.{List, [], _∷_}
 use lib.ListN.{take, drop}

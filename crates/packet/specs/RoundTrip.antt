@@ -1,4 +1,4 @@
--- Encoding and decoding undo each other: what is claimed. The proofs are in proofs/RoundTrip.antt.
+-- Encoding and decoding undo each other: the statements. The proofs are in proofs/RoundTrip.antt.
 use Prim.Native.Nat.{ℕ, _^_, _≤_, _<_}
 use mathlib.Core.Path.{_≡_}
 use mathlib.Core.List.{List, _++_}
@@ -7,7 +7,7 @@ use Rattle.packet.specs.declared.header.Header.{Header}
 use Rattle.packet.specs.declared.header.Decoded.the-variants.{Packet}
 use Rattle.packet.specs.Header.{decoded, encodedIn}
 
--- each field fits the bytes that it has in the header, as every header of the code does
+-- each field fits its bytes in the header, as in every header of the code
 pub record HeaderFits (h : Header) : Type 0 where
   pub typ : h .typ < 256
   pub «data_offset» : h .«data_offset» < 256
@@ -20,11 +20,11 @@ pub record HeaderFits (h : Header) : Type 0 where
 abbrev pub Bytes : List ℕ → Type 0
 Bytes s = (i : ℕ) → getD s i 0 < 256
 
--- Decoding what was encoded gives the header back.
+-- Decoding an encoded header gives it back.
 abbrev pub DecodeEncode : Type 0
 DecodeEncode = (h : Header) (buf : List ℕ) → HeaderFits h → 20 ≤ length buf → decoded (encodedIn h buf) ≡ Packet h
 
--- Encoding what was decoded gives its first 20 bytes back.
+-- Encoding a decoded header gives its first 20 bytes back.
 abbrev pub EncodeDecode : Type 0
 EncodeDecode =
     (h : Header) (s buf : List ℕ) → Bytes s → decoded s ≡ Packet h → 20 ≤ length buf

@@ -28,7 +28,7 @@ pub enum Decoded {
 }
 
 impl Header {
-    // The header at the front of a datagram; what follows it is not looked at.
+    // Reads the header at the front of a datagram; what follows it is ignored.
     pub fn from_bytes(buf: &[u8]) -> Decoded
         ensures { λ r. ⌜ r ≡ decoded (now (buf .entry)) ⌝ }
     {
@@ -83,7 +83,7 @@ impl Header {
         ]
     }
 
-    // Puts the header at the front of buf; the rest of buf stays.
+    // Writes the header to the front of buf; the rest of buf stays.
     pub fn encode(self, buf: &mut [u8]) -> Outcome
         ensures { λ r. ⌜ Encodes self (now (buf .entry)) (now (buf .exit)) r ⌝ }
     {
@@ -95,7 +95,7 @@ impl Header {
         Outcome::Ready
     }
 
-    // The Rust's has_type, for each bit that a stream looks at.
+    // The Rust's has_type, one function for each bit that a stream checks.
     pub fn is_data(self) -> bool
         ensures { λ r. ⌜ r ≡ hasType 1 (self .typ) ⌝ }
     {

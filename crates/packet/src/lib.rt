@@ -1,4 +1,4 @@
-// Headers and SACK blocks as bytes (src/packet.rs, and the reader in handle_incoming_sacks). Knows nothing of streams.
+// Headers and SACK blocks as bytes (src/packet.rs, and the block reader in handle_incoming_sacks). Knows nothing about streams.
 mod header;
 mod little_endian;
 mod sack;

@@ -1,4 +1,4 @@
-// Numbers as bytes, the least significant first.
+// Numbers as bytes, least significant first.
 ghost use mathlib.Core.Path.{_≡_};
 ghost use mathlib.Core.List.{[], _∷_};
 ghost use Prim.Native.Nat.{_+_, _/_, _%_, _≤_};

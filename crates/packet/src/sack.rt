@@ -6,11 +6,11 @@ use crate::little_endian::read_u32_le;
 pub enum Block {
     // Numbers from start to below end.
     Range { start: u32, end: u32 },
-    // No block stands here.
+    // There is no block here.
     NoMore,
 }
 
-// The block at a place of a payload; the next one stands 8 bytes on. Tested by a difference, so that no sum can wrap.
+// The block at a place in a payload; the next one is 8 bytes on. Compares with a difference, because the sum could wrap.
 pub fn block_at(payload: &[u8], at: usize) -> Block
     ensures { λ r. ⌜ r ≡ nextBlock (blocksFrom (now (payload .entry)) at) ⌝ }
 {

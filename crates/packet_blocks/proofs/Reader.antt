@@ -1,4 +1,4 @@
--- Laws on what is read at a place: a block and the place 8 bytes on, or the end and the same place.
+-- Laws of what is read at a place: a block and the place 8 bytes on, or the end and the same place.
 use Prim.Native.Nat.{ℕ, _+_, _<_}
 use mathlib.Core.Path.{_≡_, sym, ap, _∙_}
 use mathlib.Core.List.{List, [], _∷_}
@@ -10,7 +10,7 @@ use Rattle.packet.proofs.Blocks.{range-inside, range-first, end-none}
 use Rattle.packet_blocks.specs.declared.Next.{Next}
 use Rattle.packet_blocks.specs.Reader.{readAt}
 
--- from what stands at a place to what is read there
+-- from the block at a place to what is read there
 
 pub reads-range : (payload : List ℕ) (at : ℕ) {start end : ℕ} → nextBlock (blocksFrom payload at) ≡ Range start end
     → _≡_ {A = Next} record { block = Range start end; at = at + 8 } (readAt payload at)
@@ -29,7 +29,7 @@ module _ (payload : List ℕ) (at : ℕ) {n : Next} (read : n ≡ readAt payload
   moves : {start end : ℕ} → n .block ≡ Range start end → at + 8 ≡ n .at
   moves is = ap (λ (m : Next). m .at) (reads-range payload at (stands ∙ is) ∙ sym read)
 
-  -- after a block come those of the place after it, which stands inside the payload
+  -- after a block come the blocks from the place after it, which is inside the payload
   pub read-first : {start end : ℕ} → n .block ≡ Range start end
       → blocksFrom payload at ≡ record { start = start; end = end } ∷ blocksFrom payload (n .at)
   read-first {start} {end} is =

@@ -1,4 +1,4 @@
--- What a block reader reads at a place, by the blocks of its payload.
+-- What a block reader reads at a place, in terms of the blocks of its payload.
 use Prim.Native.Nat.{ℕ, _+_}
 use mathlib.Core.List.{List, [], _∷_}
 use Rattle.packet.specs.Blocks.{Span, blocksFrom, nextBlock}

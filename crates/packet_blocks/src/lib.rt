@@ -1,5 +1,5 @@
-// The block reader in the Rust's handle_incoming_sacks: it keeps its payload and its place together. `next_at`, on a plain slice and a
-// number, does the work. Functions that hold a reader are proved by hand, so they are thin, and `read_from` is for callers that hold none.
+// The block reader in the Rust's handle_incoming_sacks: it keeps its payload and its place together. `next_at` does the work on a plain
+// slice and a number. Functions that hold a reader are proved by hand, so they are thin; `read_from` is for callers that hold none.
 ghost use mathlib.Core.Path.{_≡_};
 ghost use Rattle.packet_blocks.specs.Reader.{readAt};
 use packet::Block;
@@ -15,7 +15,7 @@ pub struct BlockReader<'a> {
     pub at: usize,
 }
 
-// What stands at a place, and the place after it: 8 bytes on, or the same at the end.
+// The block at a place and the place after it, 8 bytes on; or the end and the same place.
 pub fn next_at(payload: &[u8], at: usize) -> Next
     ensures { λ r. ⌜ r ≡ readAt (now (payload .entry)) at ⌝ }
 {
@@ -48,7 +48,7 @@ impl<'a> BlockReader<'a> {
         }
     }
 
-    // What stands at the reader's place, and the place after it.
+    // The block at the reader's place, and the place after it.
     pub fn next(self) -> Next
         ensures { λ r. ⌜ r ≡ readAt (now (self .entry .payload)) (self .entry .at) ⌝ }
     {

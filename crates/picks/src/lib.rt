@@ -1,4 +1,4 @@
-// Combinators in place of branches: total, so that a caller owes nothing.
+// Total combinators that replace branches, so callers have nothing to prove.
 ghost use mathlib.Core.Path.{_≡_};
 ghost use mathlib.Core.Bool.{true, cond, _&&_};
 ghost use Prim.Native.Nat.{_+_, _-_, _≤_, max, min};
@@ -10,7 +10,7 @@ pub fn both(a: bool, b: bool) -> bool
     if a { b } else { false }
 }
 
-// Where t holds, the rule does.
+// If t, then the rule.
 pub fn implies(t: bool, rule: bool) -> bool
     ensures { λ r. ⌜ r ≡ cond t rule true ⌝ }
 {
@@ -29,7 +29,7 @@ pub fn pick32(t: bool, a: u32, b: u32) -> u32
     if t { a } else { b }
 }
 
-// a - b, or 0 where b is more.
+// a - b, or 0 if b is larger.
 pub fn less(a: u32, b: u32) -> u32
     ensures { λ r. ⌜ r ≡ a - b ⌝ }
 {
@@ -54,7 +54,7 @@ pub fn smaller(a: u32, b: u32) -> u32
     if a < b { a } else { b }
 }
 
-// The sum of two numbers is at most a third; by a difference, so that no sum can wrap.
+// Whether a + b is at most `most`; compares with a difference, because the sum could wrap.
 pub fn fits(a: u32, b: u32, most: u32) -> bool
     ensures { λ r. ⌜ r ≡ leb (a + b) most ⌝ }
 {

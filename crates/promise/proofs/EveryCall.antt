@@ -1,6 +1,6 @@
--- Every call can be made on records that are an end of the model that keeps the invariant (`make`), and so every list of requests from an
--- open (`every-run`). A refused call changes nothing; else the answer is the model's, and the end after it is laid out anew over the
--- stores. A read is proofs/EveryRead.antt.
+-- Every call can be made on records that are an end of the model satisfying the invariant (`make`), and so every list of requests from an
+-- open (`every-run`). A refused call changes nothing; otherwise the answer is the model's, and the end after it is laid out anew over the
+-- stores. Reads are in EveryRead.antt.
 use Prim.Native.Nat.{ℕ, _<_}
 use native.Mathlib.Omega.{arith}
 use mathlib.Core.Path.{_≡_, refl, sym, ap, _∙_, subst}
@@ -98,7 +98,7 @@ close-quiet : (e : End) → Quiet e (model.close e)
 unfolding model.close
 close-quiet e = by-gate (Quiet e) (model.closeRefusal e) e _ (same-refusal e) (λ z. acts-quiet e _ ready-acts)
 
--- a batch's segment size as the number of a step
+-- a batch's segment size as the number in a step
 
 abbrev Segment : Answer → Type 0
 Segment a = (n : ℕ) × (segmentOf n ≡ a .segment)
@@ -218,7 +218,7 @@ module _ (x : Records) (out : laidOut (x .stream) (x .lent) ≡ true) (keeps : I
             sized = new .sized;
           }
 
--- records that are an end of the model, over words of their arrays' lengths
+-- records that are an end of the model, with words of the right lengths
 pub record Stand (x : Records) : Type 0 where
   pub laid : laidOut (x .stream) (x .lent) ≡ true
   pub keeps : Invariant (seenOf x)

@@ -1,6 +1,6 @@
--- A read can be made on records that are an end of the model. One that finds nothing changes nothing; one that puts the front of a packet
--- changes that packet's word alone, since it may be refused and then keeps every number; one that finishes a packet is ready, and the end
--- after it is laid out anew. Only the front of a packet asks how many words there are.
+-- A read can be made on records that are an end of the model. One that finds nothing changes nothing. One that puts the front of a packet
+-- changes only that packet's word, since it may be refused and must then keep every number. One that finishes a packet is ready, and the
+-- end after it is laid out anew. Only the front of a packet depends on how many words there are.
 use Prim.Native.Nat.{ℕ, suc, _+_, _-_, _%_, _<_}
 use native.Mathlib.Omega.{arith}
 use mathlib.Core.Path.{_≡_, refl, sym, ap, _∙_, subst}
@@ -61,7 +61,7 @@ pub loop-whole : (k room : ℕ) (r : model.Receiver) (h : model.Held) → get (r
 unfolding readLoop
 loop-whole k room r h e l = rw (e, l) refl
 
--- no other refusal than the stream's error
+-- no refusal other than the stream's error
 other : (x : UdxError) → errorOr x Waiting ≡ Refused BrokenRecords → ⊥
 other error.None q = let z : _≡_ {A = ℕ} 0 1 = cc in omega arith
 other error.ConnectionReset q = let z : _≡_ {A = ℕ} 0 1 = cc in omega arith
@@ -90,7 +90,7 @@ module _ (x : Records) (out : laidOut (x .stream) (x .lent) ≡ true) (stores : 
   unfolding read readRefusal
   acts = gate-open (readRefusal (seenOf x)) (seenOf x) _ (rw (invariant-rules (seenOf x) keeps) refl)
 
-  -- an agreement with what the read got is one with the model's answer
+  -- agreeing with what the read got is agreeing with the model's answer
   agrees-with : (g : Got) (r : Step) (after : Lent) → readNext (length buf) (seenOf x .receiver) ≡ g → Agrees (readAnswer g (seenOf x)) r after
       → Agrees (onRecords (read (length buf)) (x .stream) (x .totals) (x .lent)) r after
   agrees-with g r after e h = subst (λ (a : Answer). Agrees a r after) (sym (on-laid x out (read (length buf)) ∙ acts ∙ ap (λ (g : Got). readAnswer g (seenOf x)) e)) h

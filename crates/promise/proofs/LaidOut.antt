@@ -1,5 +1,5 @@
--- Every end of the model that keeps the invariant can be laid out as records: numbers, words and stores that are seen as it, over stores of
--- 01's lengths, in which the bytes past the packets stay (`laid`).
+-- Every end of the model that satisfies the invariant can be laid out as records: numbers, words and stores that are seen as that end.
+-- The stores have 01's lengths, and their bytes past the packets stay (`laid`).
 use Prim.Native.Nat.{ℕ, _+_, _≤_, _<_}
 use native.Mathlib.Omega.{arith}
 use mathlib.Core.Path.{_≡_, refl}
@@ -150,7 +150,7 @@ module _ (e : model.End) (g : Invariant e) (l : Lent) (stores : storesTest (l .o
           let most = h .0 .1 in
           ((omega arith, omega arith), go q (h .1) (b .1))
 
-  -- at most 32 packets at rest, 64 to take
+  -- at rest at most 32 packet entries; with entries left to take at most 64 of each kind
   few : Left true e → (length (e .queue .entries) ≤ 128) × (states (e .queue .entries) ≤ 64) × ((e .queue .left ≡ 0) ⊎ (e .queue .left ≡ length (e .queue .entries)))
   few (atRest z h) =
       let k = kinds (e .queue .entries) in

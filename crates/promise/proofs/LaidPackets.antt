@@ -1,5 +1,5 @@
 -- The two packet stores of an end of the model, laid out: words and bytes that are seen as its stored and its held packets. A slot's word
--- is its packet's, or 0; its bytes stand at the front of its piece.
+-- is its packet's, or 0; the packet's bytes are at the front of the slot.
 use Prim.Native.Nat.{ℕ, suc, _+_, _-_, _*_, _%_, _^_, _≤_, _<_}
 use native.Mathlib.Omega.{arith}
 use mathlib.Core.Path.{_≡_, refl, ap, ap₂, sym, _∙_, subst}
@@ -31,7 +31,7 @@ table-of k f d xs e h =
     ext-getD d (table k f) xs (table-length k f ∙ sym e)
     (λ i l. let m : i < k = subst (λ (n : ℕ). i < n) (table-length k f) l in table-get k f i d m ∙ h i m)
 
--- no packet stands in the slot
+-- the slot has no packet
 not-there : (a b c d : Bool) → d ≡ false → (a && (b && (c && d))) ≡ false
 not-there true true true d e = e
 not-there true true false d e = refl
@@ -60,7 +60,7 @@ sentTimeFor o = on o 0 (λ x. sentTime (sentFor x))
 abbrev bytesFor : Option (Numbered model.Packet) → Bytes
 bytesFor o = on o [] (λ x. x .value .bytes)
 
--- what a packet in slot i needs for its word
+-- what a packet in slot i must satisfy to fit its word
 pub record StoredFits (remoteAcked seq i : ℕ) (x : Numbered model.Packet) : Type 0 where
   pub in-slot : x .number % ceiling ≡ i
   pub from : remoteAcked ≤ x .number
@@ -70,7 +70,7 @@ pub record StoredFits (remoteAcked seq i : ℕ) (x : Numbered model.Packet) : Ty
   pub transmits : x .value .marks .transmits < 32
   pub time : (t : ℕ) → x .value .marks .sent ≡ some t → t < 2 ^ 60
 
--- the packet that stands in slot i, if this is its word
+-- the packet in slot i, if this is its word
 abbrev storedIn : (remoteAcked seq : ℕ) → Bytes → ℕ → Sent → Option (Numbered model.Packet)
 storedIn remoteAcked seq store i p =
     numbered (leb remoteAcked (p .number) && (ltb (p .number) seq && (inSlot i (p .number) && isStored p (p .number)))) (p .number) (packetOf store i p)
@@ -183,7 +183,7 @@ heldWordFor o = on o 0 (λ x. heldWord (heldFor x))
 abbrev payloadFor : Option (Numbered model.Held) → Bytes
 payloadFor o = on o [] (λ x. x .value .payload)
 
--- what a packet in slot i needs for its word
+-- what a packet in slot i must satisfy to fit its word
 pub record HeldFits (readCursor top i : ℕ) (x : Numbered model.Held) : Type 0 where
   pub in-slot : x .number % ceiling ≡ i
   pub from : readCursor ≤ x .number
@@ -192,7 +192,7 @@ pub record HeldFits (readCursor top i : ℕ) (x : Numbered model.Held) : Type 0 
   pub short : length (x .value .payload) ≤ 1_380
   pub offset : x .value .offset ≤ 1_380
 
--- the packet that stands in slot i, if this is its word
+-- the packet in slot i, if this is its word
 abbrev heldIn : (readCursor top : ℕ) → Bytes → ℕ → Held → Option (Numbered model.Held)
 heldIn readCursor top store i p =
     numbered (leb readCursor (p .number) && (ltb (p .number) top && (inSlot i (p .number) && isHeld p (p .number)))) (p .number) (heldPayload store i p)

@@ -1,5 +1,5 @@
--- The send queue of an end of the model, laid out: a word for each entry, and the bytes of its state packets one after the other at the
--- front of the header store.
+-- The send queue of an end of the model, laid out: a word for each entry, and the bytes of its state packets one after another at the front
+-- of the header store.
 use Prim.Native.Nat.{ℕ, suc, _+_, _-_, _*_, _^_, _≤_, _<_}
 use native.Mathlib.Omega.{arith}
 use mathlib.Core.Path.{_≡_, refl, ap, ap₂, sym, _∙_}
@@ -39,7 +39,7 @@ headersFor [] = []
 headersFor (model.state b ∷ q) = b ++ headersFor q
 headersFor (model.packet n l ∷ q) = headersFor q
 
--- what an entry needs for its word
+-- what an entry must satisfy to fit its word
 abbrev pub EntryFits : model.Entry → Type 0
 EntryFits (model.state b) = length b ≡ 20
 EntryFits (model.packet n l) = (n < 2 ^ 32) × (l < 65_536)
@@ -53,7 +53,7 @@ headers-length [] h = refl
 headers-length (model.state b ∷ q) h = length-append b (headersFor q) ∙ rw (h .0, headers-length q (h .1)) (omega arith)
 headers-length (model.packet n l ∷ q) h = headers-length q (h .1)
 
--- the first bytes of a piece behind other pieces
+-- cutting out a piece from between others
 cut-at : (pre b rest : Bytes) (place : ℕ) → length pre ≡ place * headerSlot → length b ≡ 20 → cut headerSlot (pre ++ (b ++ rest)) place 20 ≡ b
 unfolding cut
 cut-at pre b rest place e l =
@@ -78,7 +78,7 @@ entries-back (model.packet n l ∷ q) pre rest place h e =
     rw back (ap (λ (ys : List model.Entry). model.packet n l ∷ ys) (entries-back q pre rest place (h .1) e))
 
 module _ (q : model.Queue) where
-  -- the counts: nothing of it has been taken
+  -- the counts of a queue from which nothing has been taken
   abbrev pub laidQueue : Queue
   laidQueue = record { count = length (q .entries); left = q .left; states = states (q .entries); gone = 0 }
 

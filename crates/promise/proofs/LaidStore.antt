@@ -1,5 +1,5 @@
--- A lent store with other bytes at the front of each of its pieces, and what stood past them kept: what is cut from it are those bytes,
--- and past them nothing changed. The new store is its pieces joined, all of one length.
+-- A lent store with new bytes at the front of each of its pieces and the rest kept: cutting a piece returns its new bytes, and past them
+-- nothing changed. The new store is its pieces joined, all of one length.
 use Prim.Native.Nat.{ℕ, zero, suc, _+_, _-_, _*_, _≤_, _<_}
 use native.Mathlib.Nat.{mul-le-mul-right, suc-mul}
 use native.Mathlib.Omega.{arith}
@@ -30,7 +30,7 @@ module _ (z : ℕ) where
       (joined-piece k (λ i. f (suc i)) (λ j m. h (suc j) (omega arith)) i (omega arith))
 
 module _ (z k : ℕ) (store : Bytes) (f : ℕ → Bytes) where
-  -- a piece with other bytes at its front
+  -- a piece with new bytes at its front
   abbrev pieceAt : ℕ → Bytes
   pieceAt i = f i ++ beyond z store i (length (f i))
 
@@ -62,7 +62,7 @@ module _ (z k : ℕ) (store : Bytes) (f : ℕ → Bytes) where
         ∙ take-append-le (length (f i)) (pieceAt i) (replicate (length (f i)) 0) (simp length-append (omega arith))
         ∙ take-append-seam (f i) (beyond z store i (length (f i)))
 
-    -- what stands past them
+    -- what is past them
     pub pieces-beyond : (i : ℕ) → i < k → beyond z withPieces i (length (f i)) ≡ beyond z store i (length (f i))
     unfolding beyond
     pieces-beyond i l = ap (drop (length (f i))) (piece-is i l) ∙ drop-append-seam (f i) (beyond z store i (length (f i)))

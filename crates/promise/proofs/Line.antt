@@ -1,5 +1,5 @@
--- Two ends on the records go on as the model's two ends: what is seen of each, with its history, after a call is what the model's call
--- leaves (`call-same`), so a list of calls does (`run-same`), and a line on the records is one of the model (`line-same`).
+-- Two ends on the records behave as the model's two ends: what is seen of an end after a call, with its history, is what the model's call
+-- leaves (`call-same`). The same holds after a list of calls (`run-same`), and a line on the records is a line of the model (`line-same`).
 use mathlib.Core.Path.{_≡_, refl, sym, ap, _∙_, subst}
 use mathlib.Core.Logic.{inl, inr}
 use mathlib.Core.List.{List, [], _∷_}

@@ -1,5 +1,5 @@
--- What two ends of the model do over a line two ends on the records can do: each call is made (EveryCall.antt), answers as the model's and
--- so brings what the model's brings. One piece that the model carries is then carried on the records.
+-- Whatever two ends of the model do over a line, two ends on the records can do: each call can be made (EveryCall.antt), answers as the
+-- model's does and so brings what the model's brings. A piece that the model carries is then carried on the records.
 use Prim.Native.Nat.{ℕ, _≤_, min}
 use native.Mathlib.Omega.{arith}
 use mathlib.Core.Path.{_≡_, refl, sym, ap, ap₂, _∙_, subst}
@@ -33,7 +33,7 @@ use Rattle.promise.proofs.EveryCall.{Stand, make, freshOpened, can-open
 
 -- one call
 
--- what stands is laid out as what is seen of it
+-- from `Stand` to `LaidSide`
 as-laid : (x : Side) → Stand (x .records) → LaidSide x
 as-laid x h = record { laid = h .laid; end = refl; keeps = h .keeps }
 

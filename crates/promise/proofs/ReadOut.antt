@@ -1,6 +1,6 @@
--- Reads alone exist at every end that calls came to (`reads-at`). A read of 1,380 has room for a whole packet: it finds nothing at the read
--- cursor and puts none, or it finishes a packet and the cursor rises. Packets held have numbers below 4,294,967,295, so that ends.
--- What the reads put is then what `two-ends-on-records` says.
+-- Reads alone exist at every end that calls lead to (`reads-at`). A read of 1,380 has room for a whole packet: either it finds nothing at
+-- the read cursor and puts none, or it finishes a packet and the cursor rises. Held packets have numbers below 4,294,967,295, so the reads
+-- come to an end. What they put is then what `two-ends-on-records` says.
 use Prim.Native.Nat.{ℕ, zero, suc, _+_, _-_, _≤_, _<_}
 use native.Mathlib.Nat.{le-refl}
 use native.Mathlib.Omega.{arith}
@@ -56,7 +56,7 @@ unfolding read readNext readLoop
 reads-nothing room e z =
     by-gate (λ (a : Answer). a .count ≡ 0) (readRefusal e) e (readAnswer (readNext room (e .receiver)) e) (λ why. refl) (λ q. rw z refl)
 
--- reads alone of an end
+-- reads alone at an end
 
 pub record Reads (x : Side) : Type 0 where
   pub reads : List Event
@@ -111,7 +111,7 @@ module _ (room : Bytes) (size : length room ≡ 1_380) where
             subst (λ (a : Answer). o .receiver .readCursor < a .end .receiver .readCursor) (sym is) (next-cursor (length room) (o .receiver) h e fits);
       }
 
-  -- k is at least how many numbers are left that a held packet can have
+  -- k bounds how many numbers a held packet can still have
   reads-of : (k : ℕ) (x : Side) → LaidSide x → 4_294_967_295 ≤ k + seenOf (x .records) .receiver .readCursor → Reads x
   reads-of zero x laid enough = go (get (seenOf (x .records) .receiver .incoming) (seenOf (x .records) .receiver .readCursor)) refl
     where

@@ -1,5 +1,5 @@
--- Demand 2 over any list of calls: its proof. An open hands out records that are laid out and are seen as the model's fresh end; each
--- contract gives the model's answer on records that are laid out, and keeps them so. That refusal 1 never comes is then the model's
+-- The proof of demand 2 over any list of calls. An open hands out records that are laid out and seen as the model's fresh end; on records
+-- that are laid out, each contract gives the model's answer and keeps them laid out. That refusal 1 never occurs is then the model's
 -- `never-broken`.
 use Prim.Native.Nat.{ℕ, _+_, _<_, _^_}
 use native.Mathlib.Omega.{arith}
@@ -71,12 +71,12 @@ read-counts room e =
 
 -- one call
 
--- bytes that were put at the front are the first of the buffer
+-- bytes put at the front are the first of the buffer
 pub front : (buf bytes : Bytes) → take (length bytes) (put buf 0 bytes) ≡ bytes
 unfolding put
 front buf bytes = take-append-seam bytes (drop (0 + length bytes) buf)
 
--- outcome, count, segment size and end as a contract says, with these bytes
+-- a step that agrees with the model's answer, with the same bytes, is that answer
 same-answer : (a : Answer) (r : Step) (after : Lent) (bytes : Bytes) → Agrees a r after → bytes ≡ a .bytes
     → record { outcome = r .outcome; count = r .count; bytes = bytes; segment = segmentOf (r .segment); end = seen (r .stream) (r .totals) after } ≡ a
 same-answer a r after bytes g e = rw (g .outcome, g .count, e, g .segment, g .end) refl
@@ -89,7 +89,7 @@ module _ (x : Records) (laid : laidOut (x .stream) (x .lent) ≡ true) where
   pub agreed : (call : End → Answer) (r : Step) (after : Lent) → Agrees (onRecords call (x .stream) (x .totals) (x .lent)) r after → Agrees (call (seenOf x)) r after
   agreed call r after g = subst (λ (a : Answer). Agrees a r after) (on-laid call) g
 
-  -- a buffer into which the bytes of this call were put
+  -- the first `count` bytes of the buffer are those that the model's call puts
   pub puts : (call : End → Answer) (buf buf′ : Bytes) (r : Step) (after : Lent) → Agrees (onRecords call (x .stream) (x .totals) (x .lent)) r after
       → buf′ ≡ put buf 0 ((onRecords call (x .stream) (x .totals) (x .lent)) .bytes) → (call (seenOf x)) .count ≡ length ((call (seenOf x)) .bytes)
       → take (r .count) buf′ ≡ (call (seenOf x)) .bytes

@@ -1,5 +1,5 @@
--- A packet that is seen under its number lies in its slot of the lent store (`stored-on`, `held-on`): its word is packet n, and the store has the
--- length that open tested, so the bytes that are seen are the store's own.
+-- A packet seen under its number is in its slot of the lent store (`stored-on`, `held-on`): the slot's word is that of packet n, and the
+-- store has the length that open checked, so the bytes seen are the store's own.
 use Prim.Native.Nat.{ℕ, _+_, _-_, _*_, _%_, _≤_, _<_}
 use native.Mathlib.Omega.{arith}
 use mathlib.Core.Path.{_≡_, refl, sym, ap, _∙_, subst}
@@ -38,7 +38,7 @@ unfolding laidOut
 outgoing-whole x h =
     eqb-true _ _ (first-fits (eqb (length (x .lent .outgoing)) 44_800) _ (and-left (not (storesTest (x .lent .outgoing) (x .lent .incoming) (x .lent .headers))) _ h))
 
--- the packet that a slot's word is
+-- a stored packet is the one that its slot's word describes
 packet-is : (words : List ℕ) (store : Bytes) (n : ℕ) (p : Packet) → storedAt words store n ≡ some p → p ≡ packetOf store (n % ceiling) (sentIn words (n % ceiling))
 packet-is words store n p e = go (isStored (sentIn words (n % ceiling)) n) e
   where
@@ -81,7 +81,7 @@ stored-on x laid n piece (p, e, q) =
           ∙ cut-lies (l .outgoing) (n % ceiling) (word .length) (slot-low n) most whole ∙ is;
     }
 
--- the same of a packet that is held
+-- the same for a held packet
 
 second-fits : (a b c : Bool) → not (not a || (not b || c)) ≡ true → b ≡ true
 second-fits true true c h = refl

@@ -1,6 +1,6 @@
--- Demand 3 on the records: its proof. Both ends go on as the model's (Line.antt), so the model's `two-ends` promises all of what is seen
--- of them (`promised`). What is promised beyond that is Unread.antt and StoredOn.antt. One direction is proved; with the ends and every
--- call turned over it is the other.
+-- The proof of demand 3 on the records. Both ends behave as the model's (Line.antt), so the model's `two-ends` proves what concerns only
+-- what is seen of them (`promised`). The rest is in Unread.antt and StoredOn.antt. One direction is proved; swapping the ends, in the
+-- calls too, gives the other.
 use Prim.Native.Nat.{ℕ}
 use mathlib.Core.Path.{_≡_, refl, sym, ap, ap₂, _∙_, subst}
 use mathlib.Core.List.{List, [], _∷_, _++_}

@@ -1,6 +1,5 @@
--- What is unread in order, as it is seen, is what reads on the records put (`unread-is`). The reads are calls on the receiver like any
--- others, so the promise holds after them too: the same bytes are accepted, what they put is read, and before the read that puts none
--- nothing is unread.
+-- What is unread in order, as seen, is what reads on the records put (`unread-is`). The reads are calls on the receiver like any others, so
+-- the promise holds after them too: the same bytes are accepted, what the reads put is read, and nothing is unread once a read puts none.
 use Prim.Native.Nat.{ℕ, zero, suc, _-_}
 use native.Mathlib.Omega.{arith}
 use mathlib.Core.Path.{_≡_, refl, sym, ap, _∙_, subst}
@@ -27,7 +26,7 @@ use Rattle.promise.specs.TwoEndsOnRecords.{noted, Side, happened, Ends, 
 use Rattle.promise.proofs.Runs.{stands-answer}
 use Rattle.promise.proofs.Line.{seenSide, LaidSide, call-laid}
 
--- a read of the model leaves ack
+-- a read of the model does not change ack
 
 loop-ack : (k room : ℕ) (r : Receiver) → (readLoop k room r) .receiver .ack ≡ r .ack
 unfolding readLoop

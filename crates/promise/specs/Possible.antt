@@ -1,8 +1,8 @@
 -- The hypotheses of the theorems about lists of calls are satisfiable. Those theorems quantify over events that satisfy the contracts of
--- the exported functions; here such events exist: every list of requests is that of some calls from an open (`EveryRun`), whatever two
--- ends of the model do over a line two ends on the records can do (`EveryLine`), one carries bytes to the other (`Possible`), and wherever
--- two ends come to, the reads that tell what is unread exist (`EveryReadOut`). Statements only: the proofs are proofs/EveryCall.antt,
--- proofs/Possible.antt and proofs/ReadOut.antt.
+-- the exported functions; such events exist for every list of requests from an open (`EveryRun`), for whatever two ends of the model do
+-- over a line (`EveryLine`), for bytes that one end carries to the other (`Possible`), and, wherever two ends get to, for the reads that
+-- show what is unread (`EveryReadOut`). Statements only: the proofs are in proofs/EveryCall.antt, proofs/Possible.antt and
+-- proofs/ReadOut.antt.
 use Prim.Native.Nat.{ℕ, _≤_}
 use mathlib.Core.Path.{_≡_}
 use mathlib.Core.List.{List, [], _∷_, _++_}
@@ -27,8 +27,8 @@ pub record WordLengths (l : Lent) : Type 0 where
   pub held : length (l .held) ≡ 32
   pub queue : length (l .queue) ≡ 128
 
--- 01, call 1: "Open: both ids, segment ceiling 1 to 10, clock"; ceiling and clock are accepted, the stores have 01's lengths and any bytes
--- in them, and the words may hold anything
+-- 01, call 1: "Open: both ids, segment ceiling 1 to 10, clock"; ceiling and clock are accepted, the stores have 01's lengths, and stores
+-- and words may hold anything
 pub record Openable (segments clock : ℕ) (l : Lent) : Type 0 where
   pub accepted : openRefusal segments clock ≡ none
   pub stores : storesTest (l .outgoing) (l .incoming) (l .headers) ≡ false
@@ -36,14 +36,14 @@ pub record Openable (segments clock : ℕ) (l : Lent) : Type 0 where
 
 -- one end
 
--- each request was made, by a call that did what its contract says and left words of the same lengths
+-- each request was made by a call that did what its contract says and left words of the same lengths
 abbrev pub Makes : List Request → List Event → Records → Type 0
 Makes [] [] x = Unit {0}
 Makes [] (v ∷ vs) x = ⊥
 Makes (q ∷ qs) [] x = ⊥
 Makes (q ∷ qs) (v ∷ vs) x = (v .request ≡ q) × Did x v × WordLengths (v .lent) × Makes qs vs (left v)
 
--- From an open that is not refused, every list of requests, with any bytes to deliver, is that of some calls.
+-- From an open that is not refused, every list of requests, with any bytes to deliver, can be made.
 abbrev pub EveryRun : Type 0
 EveryRun =
     (local remote segments clock : ℕ) (l : Lent)
@@ -65,8 +65,8 @@ commandsFor [] = []
 commandsFor (ofA q ∷ qs) = model.onA (callOf q) ∷ commandsFor qs
 commandsFor (ofB q ∷ qs) = model.onB (callOf q) ∷ commandsFor qs
 
--- For every list of calls over a line that the model's `TwoEnds` speaks of, there are calls on the records with the same requests, so
--- `TwoEndsOnRecords` speaks of it too.
+-- For every list of calls over a line that the model's `TwoEnds` covers, there are calls on the records with the same requests, so
+-- `TwoEndsOnRecords` covers it too.
 abbrev pub EveryLine : Type 0
 EveryLine =
     (i j segmentsA segmentsB clockA clockB : ℕ) (lentA lentB : Lent)
@@ -80,8 +80,7 @@ EveryLine =
     → model.OverALine (commandsFor asked) (model.bothOpened i j segmentsA segmentsB clockA clockB)
     → (turns : List Turn) × (askedBy turns ≡ asked) × OverALine turns (bothOpened a b lentA lentB))
 
--- 01, 'Calls', 2 to 6: bytes are written, driven and taken at a, and "a copy of such a datagram", the one that was taken, is delivered and
--- read at b
+-- 01, 'Calls', 2 to 6: bytes are written, driven and taken at a, and "a copy of such a datagram", the one taken, is delivered and read at b
 pub record Traffic (clockA clockB : ℕ) (bytes batch room : Bytes) (w : Ends) : Type 0 where
   pub turns : List Turn
   pub datagram : Bytes
@@ -113,15 +112,15 @@ Possible =
 
 -- what is unread
 
--- "reads alone, 1,380 at a time, .. up to the first that puts none" at the receiver r; what they put stands between the bytes read and
--- the packets at or past the receiver's ack in what the sender s accepted
+-- "reads alone, 1,380 at a time, .. up to the first that puts none" at the receiver r. In what the sender s accepted, the bytes they put
+-- come between the bytes read and the packets at or past the receiver's ack
 pub record ReadOut (s r : Side) : Type 0 where
   pub reads : List Event
   pub last : Event
   pub alone : ReadsAlone reads last (r .records)
   pub accepted : s .past .accepted ≡ r .past .reads ++ (putByReads reads ++ joined (drop (ackOf r) (s .past .pieces)))
 
--- Such reads exist at either end after every list of calls over a line, so what `Carried` says of all such reads is not empty.
+-- Such reads exist at either end after every list of calls over a line, so what `Carried` says of all such reads is not vacuous.
 abbrev pub EveryReadOut : Type 0
 EveryReadOut =
     (i j segmentsA segmentsB clockA clockB : ℕ)

@@ -1,6 +1,6 @@
--- Demand 2 over any list of calls on the records: every answer, and the end that is seen after it, is the model's, and refusal 1 never
--- comes. The statement is `SameAsModel`, at the bottom; above it stand its terms. A call on the records is what the contract of the
--- exported function says and nothing more (`Did`). Statements only: the proof is proofs/Runs.antt.
+-- Demand 2 over any list of calls on the records: every answer, and the end seen after it, is the model's, and refusal 1 never occurs. The
+-- statement is `SameAsModel`, at the bottom; its terms come first. A call on the records is exactly what the contract of the exported
+-- function says (`Did`). Statements only: the proof is in proofs/Runs.antt.
 use Prim.Native.Nat.{ℕ}
 use mathlib.Core.Path.{_≡_}
 use mathlib.Core.List.{List, [], _∷_}
@@ -25,8 +25,8 @@ use Rattle.udx.specs.Look.{shownOf}
 use Rattle.udx.specs.Read.{Gives}
 use Rattle.udx.specs.Take.{Hands}
 
--- one end's records: numbers and totals, and the words and stores that its calls are lent. The words have the lengths of their arrays,
--- which nothing here needs: the contracts hold for all.
+-- one end's records: numbers and totals, and the words and stores that its calls are lent. The words have the lengths of their arrays, but
+-- nothing here needs that: the contracts hold for any length.
 pub record Records : Type 0 where
   pub stream : Stream
   pub totals : Totals
@@ -37,7 +37,7 @@ seenOf x = seen (x .stream) (x .totals) (x .lent)
 
 -- a call on the records
 
--- 01, 'Calls', 2 to 7, each with what its caller brings: bytes, a datagram and a clock, a clock, a buffer with what stands in it
+-- 01, 'Calls', 2 to 7, each with what its caller brings: bytes, a datagram and a clock, a clock, a buffer with its old contents
 pub data Request : Type 0 where
   toWrite : Bytes → Request
   toDeliver : Bytes → ℕ → Request
@@ -55,7 +55,7 @@ callOf (toTake buf) = takeCall (length buf)
 callOf (toRead buf) = readCall (length buf)
 callOf toClose = closeCall
 
--- a request, and what the exported function left: its step, the words and stores after it, and for take and read the buffer after it
+-- a request and what the exported function left: its step, the words and stores, and for take and read the buffer
 pub record Event : Type 0 where
   pub request : Request
   pub step : Step
@@ -80,7 +80,7 @@ Did x v = DidWith x (v .request) (v .step) (v .lent) (v .buf)
 
 -- what an event shows, as an answer of the model
 
--- the bytes that a take or a read put: those of its count, at the front of the buffer
+-- the bytes that a take or a read put: the first `count` of the buffer
 abbrev pub putBy : Request → ℕ → Bytes → Bytes
 putBy (toWrite bytes) count buf′ = []
 putBy (toDeliver datagram clock) count buf′ = []
@@ -113,7 +113,7 @@ abbrev pub callsOf : List Event → List Call
 callsOf [] = []
 callsOf (v ∷ vs) = callOf (v .request) ∷ callsOf vs
 
--- an open that was not refused, over stores of the caller's; open is lent no words, which may hold anything
+-- an open that was not refused, over the caller's stores; open is not lent the words, which may hold anything
 pub record OpenedBy (local remote segments clock : ℕ) (l : Lent) (o : Opened) : Type 0 where
   pub opens : Opens local remote segments clock (l .outgoing) (l .incoming) (l .headers) o
   pub ready : o .outcome ≡ Ready
@@ -121,11 +121,11 @@ pub record OpenedBy (local remote segments clock : ℕ) (l : Lent) (o : Opened) 
 abbrev pub handedOut : Opened → Lent → Records
 handedOut o l = record { stream = o .stream; totals = o .totals; lent = l }
 
--- what holds of records x that should be this end of the model
+-- what it means for records x to be the end e of the model
 pub record Same (x : Records) (e : End) : Type 0 where
-  -- every number, total, packet, held packet and queue entry: datagrams, window, timeout and totals are the model's
+  -- every number, total, packet, held packet and queue entry: so datagrams, window, timeout and totals are the model's
   pub end : seenOf x ≡ e
-  -- the next call, whichever it is, answers the model's outcome, count, bytes and segment size and leaves the model's end
+  -- the next call, whichever it is, returns the model's outcome, count, bytes and segment size and leaves the model's end
   pub next : (v : Event) → Did x v → answerOf v ≡ answer (callOf (v .request)) e
   -- 01, refusal 1: "(never so after calls from a fresh stream)"
   pub unbroken : (v : Event) → Did x v → v .step .outcome ≡ Refused BrokenRecords → ⊥

@@ -1,8 +1,8 @@
--- Demand 3 on the records: for two streams that `open` handed out with each other's ids and every list of calls on either, over a line
--- that may lose, repeat, delay and reorder datagrams, no byte is lost, shifted or invented. The statement is `TwoEndsOnRecords`, at the
--- bottom; above it stand its terms, in 01's words ('What the contracts say', 4). What is known of a call is the contract of its exported
--- function (`Did`, in Runs.antt), and the histories are what the callers saw: bytes lent, counts, buffers and outcomes. Statements only:
--- the proof is proofs/TwoEndsOnRecords.antt.
+-- Demand 3 on the records: for two streams that `open` handed out with each other's ids and every list of calls on either, over a line that
+-- may lose, repeat, delay and reorder datagrams, no byte is lost, shifted or invented. The statement is `TwoEndsOnRecords`, at the bottom;
+-- its terms come first, in 01's words ('What the contracts say', 4). All that is known of a call is the contract of its exported function
+-- (`Did`, in Runs.antt); the histories are what the callers saw: bytes lent, counts, buffers and outcomes. Statements only: the proof is in
+-- proofs/TwoEndsOnRecords.antt.
 use Prim.Native.Nat.{ℕ, _+_, _*_, _%_, _≤_, _<_}
 use mathlib.Core.Path.{_≡_}
 use mathlib.Core.List.{List, [], _∷_, _++_, List·Memᴰ}
@@ -25,7 +25,7 @@ use Rattle.promise.specs.Runs.{Records, seenOf, Request, toWrite, toDeli
 
 -- one end with its past
 
--- the history after a request: its step and, of a take and a read, the buffer after it. A write's first `count` bytes were accepted; a
+-- the history after a request, from its step and, for a take or a read, the buffer after it. A write's first `count` bytes were accepted; a
 -- read put the first `count` bytes of its buffer, "Bytes that a refused read put are read"; a take's datagrams are cut from those of its
 -- buffer, "its pieces of segment size, or all of it where it has none" (01, call 5)
 abbrev pub noted : Request → Step → Bytes → History → History
@@ -91,7 +91,7 @@ Brings (toTake buf) o other = Unit {0}
 Brings (toRead buf) o other = Unit {0}
 Brings toClose o other = Unit {0}
 
--- a call did what its contract says, and if it is a delivery it brought such a datagram
+-- a call did what its contract says and, if it is a delivery, brought what that sentence allows
 abbrev pub Fits : Event → Side → Side → Type 0
 Fits v x other = Did (x .records) v × Brings (v .request) (v .step .outcome) other
 
@@ -110,7 +110,7 @@ abbrev pub ackOf : Side → ℕ
 ackOf x = x .records .stream .receiver .ack
 
 -- "Unread in order are the bytes that reads alone, 1,380 at a time, would still put, up to the first that puts none": such reads on the
--- records, the last one puts none
+-- records; the last one puts none
 abbrev pub IsRead : Event → Type 0
 IsRead v = (buf : Bytes) × (v .request ≡ toRead buf) × (length buf ≡ 1_380)
 
@@ -128,7 +128,7 @@ pub record StoredBy (x : Side) (n : ℕ) (piece : Bytes) : Type 0 where
   pub packet : Packet
   pub stored : get (seenOf (x .records) .sender .outgoing) n ≡ some packet
   pub payload : drop 20 (packet .bytes) ≡ piece
-  -- in the lent store: slot n mod 32 of 1,400 bytes, behind the 20 of the header
+  -- in the lent store: slot n mod 32 of 1,400 bytes, after the 20 bytes of the header
   pub lies : take (length piece) (drop (n % 32 * 1_400 + 20) (x .records .lent .outgoing)) ≡ piece
 
 -- "held .. under its number, with just that piece's bytes as payload"
@@ -144,16 +144,16 @@ pub record Carried (s r : Side) : Type 0 where
   pub reads-first : r .past .reads ≡ take (length (r .past .reads)) (s .past .accepted)
   -- accepted = read + unread in order + packets at or past the receiver's ack
   pub accepted : s .past .accepted ≡ r .past .reads ++ (unreadInOrder (seenOf (r .records)) ++ joined (drop (ackOf r) (s .past .pieces)))
-  -- what is unread in order, as it is seen, is what reads on the records put
+  -- what is unread in order, as seen, is what reads on the records put
   pub unread : (vs : List Event) (last : Event) → ReadsAlone vs last (r .records) → unreadInOrder (seenOf (r .records)) ≡ putByReads vs
-  -- the packets are what was accepted
+  -- the packets, joined, are what was accepted
   pub pieces : joined (s .past .pieces) ≡ s .past .accepted
   -- "numbered from 0 in order over all writes": the next packet's number is how many pieces went
   pub numbered : s .records .stream .sender .seq ≡ length (s .past .pieces)
-  -- the sender still stores each of those packets
+  -- the sender still stores each packet at or past the receiver's ack
   pub kept : (n : ℕ) → ackOf r ≤ n → n < length (s .past .pieces) → StoredBy s n (getD (s .past .pieces) n [])
-  -- "a packet stored or held is there under its number, with just that piece's bytes as payload": each one that the sender stores or
-  -- the receiver holds, whichever numbers they are
+  -- "a packet stored or held is there under its number, with just that piece's bytes as payload": every packet that the sender stores or
+  -- the receiver holds, whatever its number
   pub stored : (n : ℕ) (p : Packet) → get (seenOf (s .records) .sender .outgoing) n ≡ some p
       → (n < length (s .past .pieces)) × StoredBy s n (getD (s .past .pieces) n [])
   pub held : (n : ℕ) (h : Held) → get (seenOf (r .records) .receiver .incoming) n ≡ some h
@@ -162,15 +162,15 @@ pub record Carried (s r : Side) : Type 0 where
   pub below-ack : (n : ℕ) → n < ackOf r → List·Memᴰ n (r .past .brought)
   pub ack-missing : List·Memᴰ (ackOf r) (r .past .brought) → ⊥
 
--- two streams that open handed out, each over words and stores of its own
+-- two streams that open handed out, each with its own words and stores
 abbrev pub opened : Opened → Lent → Side
 opened o l = record { records = handedOut o l; past = noHistory }
 
 abbrev pub bothOpened : (a b : Opened) (lentA lentB : Lent) → Ends
 bothOpened a b lentA lentB = record { a = opened a lentA; b = opened b lentB }
 
--- For two ends opened with each other's ids, at ceilings and clocks of their own that open accepts, and every list of calls on either
--- over a line: all of it holds with a as sender, and with b as sender.
+-- For two ends opened with each other's ids, each with any ceiling and clock that open accepts, and every list of calls on either over a
+-- line: all of it holds with a as sender, and with b as sender.
 abbrev pub TwoEndsOnRecords : Type 0
 TwoEndsOnRecords =
     (i j segmentsA segmentsB clockA clockB : ℕ)

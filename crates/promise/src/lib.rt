@@ -1,1 +1,1 @@
-// The promise has no code: what is promised of the calls is in specs/, why it holds in proofs/.
+// This crate has no code: specs/ says what is promised of the calls, proofs/ why it holds.

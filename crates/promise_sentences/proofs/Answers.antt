@@ -1,4 +1,4 @@
--- Demand 2 in 01's sentences: each from the field of the promise that renders it. What follows from an answer that is the definition's is
+-- Demand 2 in 01's sentences: each from the field of the promise that renders it. What follows from an answer that is the model's is
 -- derived once, for every way to make a call.
 use native.Mathlib.Omega.{arith}
 use mathlib.Core.Path.{_≡_, refl, sym, ap, _∙_, subst}
@@ -31,7 +31,7 @@ use Rattle.promise_sentences.specs.ShutOut.{LiveAnswer}
 use Rattle.promise_sentences.specs.Answers.{numbersOf, Answering, Shows, AfterCalls, DemandTwoOnRecords, ShowsInC, AfterCallsInC, DemandTwoFromC, AfterMixedCalls, DemandTwoMixed}
 use Rattle.promise_sentences.proofs.ShutOut.{live-answer}
 
--- calls that answer as the definition
+-- calls that answer as the model does
 
 module _ (e : End) (slots : length (e .sender .outgoing) ≡ ceiling) (Next : Type 0) (Known : Next → Type 0) (call : Next → Call) (result : Next → Answer) (is : (v : Next) → Known v → result v ≡ answer (call v) e) where
   answering : Answering e Next Known call (λ v. result v .outcome) (λ v. result v .count) (λ v. result v .bytes) (λ v. result v .segment) (λ v. result v .end)

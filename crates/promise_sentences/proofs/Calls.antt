@@ -1,5 +1,5 @@
--- Demand 1 in 01's sentences: each exported function's contract is its field of `Contracts` word for word, and the sentences follow from what
--- it says.
+-- Demand 1 in 01's sentences: each exported function's contract is its field of `Contracts` word for word, and the sentences follow from
+-- it.
 use Prim.Native.Nat.{ℕ, _+_, _≤_, _<_}
 use native.Mathlib.Omega.{arith}
 use mathlib.Core.Path.{_≡_, refl, sym, ap, ap₂, _∙_, subst}
@@ -71,7 +71,7 @@ use Rattle.promise_sentences.specs.Calls.{Equations, WhereRefused, Puts,
 use Rattle.promise_sentences.proofs.Answers.{shows}
 use Rattle.promise_sentences.proofs.Refusals.{refusal-sentences}
 
--- a `requires` that is nothing is met, and an `ensures` that has a fact in it entails what follows from the fact
+-- an empty `requires` is met, and an `ensures` that contains a fact entails what follows from the fact
 module _ {M : Type 1} (𝓤 : URA M) where
   open Connectives (connectives 𝓤) using (⌜_⌝, ⊤ₛ)
 
@@ -121,7 +121,7 @@ take-refused room why e =
     by-test (λ (a : Answer). a .outcome ≡ Refused why → a .bytes ≡ []) (ltb 0 (e .queue .left)) _ _
     (λ z o. let z : _≡_ {A = ℕ} 0 1 = cc in absurd (omega arith)) (λ z o. refl))
 
--- 14 to 16 are not 1
+-- refusals 14 to 16 are not refusal 1
 error-not-one : (x : UdxError) → errorOr x Waiting ≡ Refused BrokenRecords → ⊥
 error-not-one error.None o = let z : _≡_ {A = ℕ} 0 1 = cc in omega arith
 error-not-one error.ConnectionReset o = let z : _≡_ {A = ℕ} 0 1 = cc in omega arith

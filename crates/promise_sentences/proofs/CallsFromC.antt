@@ -1,5 +1,5 @@
--- Demand 1 in 01's sentences for the C functions, from `ContractsOfC`. A call on numbers that are known is the call on the records, whose
--- sentences are those of Calls.antt; its answer as numbers says the same, since numbers that are known come back as they were.
+-- Demand 1 in 01's sentences for the C functions, from `ContractsOfC`. A call on valid numbers (not `isStrange`) is the call on the
+-- records, whose sentences are those of Calls.antt; its answer as numbers says the same, since valid numbers come back unchanged.
 use Prim.Native.Nat.{ℕ, zero, suc, _+_, _≤_, _<_}
 use native.Mathlib.Omega.{arith}
 use mathlib.Core.Path.{_≡_, refl, sym, ap, _∙_}
@@ -62,7 +62,7 @@ use Rattle.promise_sentences.specs.Calls.{Puts, freshNumbers, OpenSays, 
 use Rattle.promise_sentences.specs.CallsFromC.{AnswerInNumbers, EquationsInC, RefusedInC, badHeader, DemandOneFromC}
 use Rattle.promise_sentences.proofs.Calls.{promises, take-says, read-says, look-shows, open-says, encodes, decodes}
 
--- numbers that are known stand for themselves
+-- valid numbers, turned into records and back, are unchanged
 
 error-there : (n : ℕ) → ltb 3 n ≡ false → errorByte (errorOf n) ≡ n
 error-there zero h = refl
@@ -169,7 +169,7 @@ module _ (call : Stream → Totals → Lent → Step → Lent → Type 0) (s : F
       by-known s (Beside before after) (λ k. let d = c .known k in beside (d .step) (d .does))
       (λ k. rw (c .strange k .lent) (record { outgoing = λ i l. refl; incoming = λ i l. refl }))
 
-  -- what a refused call on the records left as it was is left so here
+  -- what a refused call leaves unchanged on the records is unchanged here
   numbers-in-c : ((q : Step) → call (streamOf s) (totalsOf t) before q after → (why : Refusal) → q .outcome ≡ outcome.Refused why → (q .stream ≡ streamOf s) × (q .totals ≡ totalsOf t))
       → r .outcome ≡ 4 → (r .stream ≡ s) × (r .totals ≡ t)
   unfolding brokenStep flatStep

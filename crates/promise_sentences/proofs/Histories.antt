@@ -1,4 +1,4 @@
--- What demand 3 is about: what a history counts is computed, and a call that 01 allows on the line is one that the theorems allow.
+-- What demand 3 is about: what a history counts holds by computation, and a call that 01 allows on the line is one that the theorems allow.
 use Prim.Native.Nat.{ℕ, suc}
 use native.Mathlib.Omega.{arith}
 use mathlib.Core.Path.{_≡_, refl, ap}
@@ -64,7 +64,7 @@ history-counts-in-model =
       unread-none = λ e none. rw none refl;
     }
 
--- how a list goes on
+-- how a list of calls continues
 
 pub goes-on : GoesOn
 goes-on =

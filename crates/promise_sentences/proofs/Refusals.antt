@@ -1,5 +1,5 @@
--- 'Seventeen refusals, in checking order': each sentence from the numbers that `RefusalsInOrder` has for the call. Of a list of tests: the
--- first that holds is answered, an answer is one of their numbers, and where none holds there is none.
+-- 'Seventeen refusals, in checking order': each sentence from the numbers that `RefusalsInOrder` has for the call. In a list of tests the
+-- first that holds is answered, an answer is one of their numbers, and if none holds there is no answer.
 use Prim.Native.Nat.{ℕ, zero, suc, _<_}
 use native.Mathlib.Omega.{arith}
 use mathlib.Core.Path.{_≡_, refl, sym, ap, _∙_, subst}
@@ -33,7 +33,7 @@ use Rattle.model.proofs.Slots.{no-some, some-inj}
 use Rattle.records.specs.Open.{openWhy, openedOutcome}
 use Rattle.promise_sentences.specs.Refusals.{noTest, FirstAnswers, NoOther, NoneHolds, InOrder, openTestsOn, OpenRefusals, errorNumber, OtherBytes, RefusalSentences}
 
--- of a list of tests
+-- a list of tests
 
 -- the number of the first that holds
 first-number : (ts : List Test) (k : ℕ) → getD ts k noTest .holds ≡ true → ((j : ℕ) → j < k → getD ts j noTest .holds ≡ false)
@@ -44,7 +44,7 @@ first-number (t ∷ ts) (suc k) h earlier =
     let (why, e, q) = first-number ts k h (λ j l. earlier (suc j) (omega arith)) in
     (why, rw (earlier 0 (omega arith)) e, q)
 
--- the one that is answered is among them
+-- the answer is one of them
 first-among : (ts : List Test) (why : Refusal) → first ts ≡ some why → List·Memᴰ (numberOf why) (map number ts)
 first-among [] why e = absurd (no-some refl e)
 first-among (t ∷ ts) why e = go (t .holds) e (first-among ts why)
@@ -54,12 +54,12 @@ first-among (t ∷ ts) why e = go (t .holds) e (first-among ts why)
     go true e rec = List·Memᴰ·head (ap numberOf (some-inj e refl))
     go false e rec = List·Memᴰ·tail (rec e)
 
--- where none holds nothing is answered
+-- if none holds nothing is answered
 first-none : (ts : List Test) → NoneHolds ts → first ts ≡ none
 first-none [] h = refl
 first-none (t ∷ ts) h = rw (h 0) (first-none ts (λ k. h (suc k)))
 
--- of a call: its tests have these numbers
+-- a call whose tests have these numbers
 
 module _ (ts : List Test) (numbers : List ℕ) (is : map number ts ≡ numbers) where
   answers-first : (e : End) (a : Answer) → FirstAnswers ts numbers ((gate (first ts) e a) .outcome)

@@ -20,7 +20,7 @@ use Rattle.promise_sentences.specs.Calls.{Promises}
 use Rattle.promise_sentences.specs.Sessions.{SessionSentences}
 use Rattle.promise_sentences.proofs.Calls.{promises-by, promises, opens-fresh}
 
--- an open at clock 0 with ceiling 10 is refused for its stores alone
+-- an open at clock 0 with ceiling 10 can be refused only for its stores
 ends-ready : (local remote : ℕ) (outgoing incoming headers : Bytes) (o : Opened) → Opens local remote 10 0 outgoing incoming headers o
     → storesTest outgoing incoming headers ≡ false → o .outcome ≡ Ready
 unfolding openWhy

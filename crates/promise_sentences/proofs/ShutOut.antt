@@ -1,4 +1,4 @@
--- What demand 2 shuts out, from `not-dead`: where a call meets none of its refusals the facts hold under which it goes.
+-- What demand 2 shuts out, from `not-dead`: if none of a call's refusals applies, the conditions hold under which it goes.
 use Prim.Native.Nat.{ℕ, _+_, _-_, _^_, _≤_, _<_}
 use native.Mathlib.Omega.{arith}
 use mathlib.Core.Path.{_≡_, refl, ap, _∙_}

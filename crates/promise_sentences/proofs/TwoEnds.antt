@@ -1,4 +1,4 @@
--- Demand 3 in 01's sentences: each from the field of the promise that renders it. What all promises have in common is derived once, of
+-- Demand 3 in 01's sentences: each from the field of the promise that renders it. What all promises have in common is derived once, about
 -- lists; the rest says where the lists come from.
 use Prim.Native.Nat.{ℕ, _+_, _*_, _%_, _≤_, _<_}
 use mathlib.Core.Path.{_≡_, refl, sym, ap, _∙_}
@@ -24,7 +24,7 @@ use Rattle.promise_ways.proofs.FromC.{two-ends-from-c}
 use Rattle.promise_ways.proofs.Mixed.{two-ends-mixed}
 use Rattle.promise_sentences.specs.TwoEnds.{StoredWith, HeldIn, CarriesInModel, DemandThreeInModel, UnreadOn, BothOnRecords, DemandThreeOnRecords, UnreadInC, BothInC, DemandThreeFromC, UnreadMixed, DemandThreeMixed}
 
--- of lists
+-- lists
 
 front-and-rest : (read accepted : Bytes) → read ≡ take (length read) accepted → (rest : Bytes) × (accepted ≡ read ++ rest)
 front-and-rest read accepted e =
@@ -36,7 +36,7 @@ byte-in-place read accepted e i l = ap (λ (z : Bytes). getD z i 0) e ∙ getD-t
 lengths : (accepted read unread rest : Bytes) → accepted ≡ read ++ (unread ++ rest) → length accepted ≡ length read + (length unread + length rest)
 lengths accepted read unread rest e = ap length e ∙ length-append read (unread ++ rest) ∙ ap (length read +_) (length-append unread rest)
 
--- bytes that lie in a store from a place on
+-- bytes that are in a store from a place on
 byte-lies : (store piece : Bytes) (at : ℕ) → take (length piece) (drop at store) ≡ piece → (i : ℕ) → i < length piece → getD store (at + i) 0 ≡ getD piece i 0
 byte-lies store piece at e i l =
     sym (getD-drop at store i 0) ∙ sym (getD-take (length piece) (drop at store) i 0 l) ∙ ap (λ (z : Bytes). getD z i 0) e

@@ -1,7 +1,7 @@
 -- Demand 2 in the sentences of 01, 'What the contracts say', 1 and 2, refusal 1 and 'Added by design': after every list of calls from an
--- open the numbers are those of the definition (`StreamNumbers`), the next call answers it (`Answering`), refusal 1 does not come, and look shows
--- the next datagram (`Shows`); on the records, from C, and with the ways mixed. Each sentence follows from a field of the promise that
--- renders it. Statements only: the proofs are proofs/Answers.antt.
+-- open the numbers are the model's (`StreamNumbers`), the next call answers as the model's does (`Answering`), refusal 1 does not occur,
+-- and look shows the next datagram (`Shows`); on the records, from C, and with the ways mixed. Each sentence follows from the field of the
+-- promise that renders it. Statements only: the proofs are in proofs/Answers.antt.
 use Prim.Native.Nat.{ℕ, _+_, _≤_, _<_}
 use mathlib.Core.Path.{_≡_}
 use mathlib.Core.List.{List, []}
@@ -164,7 +164,7 @@ numbersInC s t =
 
 -- the next call, whichever it is
 
--- `Next` are the calls that can come next, with what is known of each; the end is the definition's before them
+-- `Next` are the possible next calls, `Known` is what is known of each; `e` is the model's end before the call
 pub record Answering (e : End) (Next : Type 0) (Known : Next → Type 0) (call : Next → Call) (outcome : Next → Outcome) (count : Next → ℕ) (bytes : Next → Bytes)
     (segment : Next → Option ℕ) (end : Next → End) : Type 0 where
   -- "Every exported function's result, stream, totals and store bytes are equations in the call's inputs, for refused calls too"
@@ -207,9 +207,10 @@ DemandTwoOnRecords =
     → Run events (handedOut o l)
     → AfterCalls (lastOf events (handedOut o l)) (after (callsOf events) (fresh local remote segments clock))
 
--- from C: outcome and refusal are one outcome (`outcomeOf`)
+-- from C: the numbers of outcome and refusal are read as one outcome (`outcomeOf`)
 
--- the part that `udx_look` names has these bytes and no more, and lies in its store, the header store at 1 and the outgoing store at 0
+-- the part that `udx_look` returns has exactly these bytes and is within its store: the header store if `header` is 1, the outgoing store
+-- if it is 0
 pub record ShowsInC (x : Plain) (e : End) (p : FlatPart) : Type 0 where
   pub bytes : Shows (bytesOf p (x .lent .outgoing) (x .lent .headers)) e
   pub long : p .length ≡ length (bytesOf p (x .lent .outgoing) (x .lent .headers))
@@ -218,7 +219,7 @@ pub record ShowsInC (x : Plain) (e : End) (p : FlatPart) : Type 0 where
 
 pub record AfterCallsInC (x : Plain) (e : End) : Type 0 where
   pub numbers : numbersInC (x .stream) (x .totals) ≡ numbersOf e
-  -- and all of it holds of the records that the numbers stand for
+  -- and all of it holds for the records that the numbers stand for
   pub records : AfterCalls (recordsOf x) e
   pub next : Answering e PlainEvent (PlainDid x) (λ v. callOf (v .request)) (λ v. outcomeOf (v .step .outcome) (v .step .refusal)) (λ v. v .step .count)
       (λ v. putBy (v .request) (v .step .count) (v .buf))

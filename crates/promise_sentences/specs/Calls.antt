@@ -1,7 +1,7 @@
--- Demand 1 in the sentences of 01, of each exported function: it requires nothing, and its `ensures` entails the sentences that 01 has for
--- the call (`Promises`). Each follows from the call's field of `Contracts` (promise/specs/Contracts.antt), so a contract that says less,
--- or a field that is left out, no longer gives them. `x` are the parameters, `y` what they are at the end, `r` is the result. Statements
--- only: the proofs are proofs/Calls.antt.
+-- Demand 1 in the sentences of 01, for each exported function: it requires nothing, and its `ensures` entails 01's sentences about the call
+-- (`Promises`). Each follows from the call's field of `Contracts` (promise/specs/Contracts.antt), so if a contract said less, or a field
+-- were missing, the proof would fail. `x` are the parameters, `y` their values at the end, `r` is the result. Statements only: the proofs
+-- are in proofs/Calls.antt.
 use Prim.Native.Nat.{ℕ, _+_, _≤_, _<_}
 use mathlib.Core.Path.{_≡_}
 use mathlib.Core.List.{List, [], _∷_}
@@ -112,12 +112,12 @@ freshNumbers local remote segments clock =
       inflightBytes = 0;
     }
 
--- what an open answers and hands out
+-- what an open returns
 pub record OpenSays (local remote segments clock : ℕ) (outgoing incoming headers : Bytes) (r : Opened) : Type 0 where
   pub in-order : InOrder (openTestsOn segments clock outgoing incoming headers) (1 ∷ 3 ∷ 4 ∷ []) (r .outcome)
   pub ready : refusedBy (r .outcome) ≡ none → r .outcome ≡ Ready
   pub numbers : r .outcome ≡ Ready → numbersOn (r .stream) (r .totals) ≡ freshNumbers local remote segments clock
-  -- 'Fresh': "stores empty", "queue empty", whatever the words hold, which an open is not lent
+  -- 'Fresh': "stores empty", "queue empty", whatever the words hold: open is not lent them
   pub empty : r .outcome ≡ Ready → (sent held queue : List ℕ)
       → seen (r .stream) (r .totals) (lent sent held queue outgoing incoming headers) ≡ model-stream.fresh local remote segments clock
   -- a refused open hands out a stream with ids, clock and segment ceiling 0, which every call refuses with 1, whatever it is lent
@@ -139,7 +139,7 @@ pub record ReadsBlock (payload : Bytes) (at : ℕ) (r : Next) : Type 0 where
 module _ {M : Type 1} (𝓤 : URA M) where
   open Connectives (connectives 𝓤) using (⌜_⌝)
 
-  -- it requires nothing, so whatever the caller holds is enough; and what it ensures entails the sentence
+  -- it requires nothing: whatever the caller holds entails it; and what it ensures entails the sentence
   abbrev pub Promises : (requires ensures : SProp 𝓤) → Type 0 → Type 2
   Promises requires ensures sentence = ((held : SProp 𝓤) → ent 𝓤 held requires) × ent 𝓤 ensures ⌜ sentence ⌝
 
@@ -252,7 +252,7 @@ module _ {M : Type 1} (𝓤 : URA M) (H : Heap 𝓤) (A : Atoms 𝓤) (mem : Mem
 
   -- header coding
 
-  -- refusal 2: "Encode has under 20 bytes"; else the header's 20 bytes are at the front
+  -- refusal 2: "Encode has under 20 bytes"; otherwise the header's 20 bytes are at the front
   abbrev pub Encode : Type 2
   Encode =
       (κs : Lfts 1) (x : Args encode.signature κs) (r : Res encode.signature κs) (y : AtExit encode.ended κs)

@@ -1,6 +1,6 @@
 -- Demand 1 in 01's sentences for the C functions: as in Calls.antt, each from the function's field of `ContractsOfC`
--- (promise_ways/specs/Contracts.antt), in the numbers that a caller in C or Rust has. Numbers that stand for no error, close state or flag
--- (`isStrange`) are broken records. Statements only: the proofs are proofs/CallsFromC.antt.
+-- (promise_ways/specs/Contracts.antt), in the numbers that a caller in C or Rust has. Numbers that are no valid error, close state or flag
+-- (`isStrange`) are broken records. Statements only: the proofs are in proofs/CallsFromC.antt.
 use Prim.Native.Nat.{_+_, _≤_, _<_}
 use mathlib.Core.Path.{_≡_}
 use mathlib.Core.List.{_++_}
@@ -54,7 +54,7 @@ use Rattle.promise_ways.specs.Calls.{openedOf}
 use Rattle.promise_sentences.specs.Answers.{numbersInC}
 use Rattle.promise_sentences.specs.Calls.{Puts, freshNumbers, OpenSays, LookShows, Promises}
 
--- the definition's answer, as numbers, and the records that the numbers handed back stand for
+-- the model's answer as numbers; its end is what is seen of the records that the returned numbers stand for
 pub record AnswerInNumbers (a : Answer) (r : FlatStep) (after : Lent) : Type 0 where
   pub outcome : r .outcome ≡ outcomeByte (a .outcome)
   pub refusal : r .refusal ≡ refusalByte (a .outcome)
@@ -73,7 +73,7 @@ pub record EquationsInC (call : End → Answer) (s : FlatStream) (t : FlatTotals
 abbrev pub RefusedInC : FlatStep → Type 0 → Type 0
 RefusedInC r unchanged = r .outcome ≡ 4 → unchanged
 
--- a header that is refused with 7 is all 0
+-- a header refused with 7 is all 0
 abbrev pub badHeader : FlatDecoded
 badHeader =
     record { header = record { «stream_id» = 0; «recv_win» = 0; seq = 0; ack = 0; typ = 0; «data_offset» = 0 }; outcome = 4; refusal = 7 }
@@ -183,7 +183,7 @@ module _ {M : Type 1} (𝓤 : URA M) (H : Heap 𝓤) (A : Atoms 𝓤) (mem : Mem
       × (r ≡ flatPart (lookedPart (streamOf s) (totalsOf t) l)))
       × (isStrange (s .ending) ≡ true → r .length ≡ 0))
 
-  -- what open says, of the records that the numbers stand for; outcome 0 is ok
+  -- the same as for open on the records that the numbers stand for; outcome 0 is ok
   abbrev pub Open : Type 2
   Open =
       (κs : Lfts 3) (x : Args opening.signature κs) (r : Res opening.signature κs) (y : AtExit opening.ended κs)
@@ -199,7 +199,7 @@ module _ {M : Type 1} (𝓤 : URA M) (H : Heap 𝓤) (A : Atoms 𝓤) (mem : Mem
       × (r .segment ≡ 0)
       × (isStrange (r .stream .ending) ≡ false))
 
-  -- header coding: refusals 2 and 7 by number, else 0
+  -- header coding: refusals 2 and 7 by number, otherwise 0
 
   abbrev pub Encode : Type 2
   Encode =
@@ -221,7 +221,7 @@ module _ {M : Type 1} (𝓤 : URA M) (H : Heap 𝓤) (A : Atoms 𝓤) (mem : Mem
       × (20 ≤ length (now buf) → getD (now buf) 0 0 ≡ 255 → getD (now buf) 1 0 ≡ 1
       → (r .outcome ≡ 0) × (r .refusal ≡ 0) × (r .header ≡ flatHeader (fields (now buf)))))
 
-  -- how the structs lie in memory: the fields in their order, the numbers past them 0, and a step whose fields count up from 1
+  -- how the structs are laid out in memory: the fields in order, then zeros; and a step whose fields count up from 1
 
   abbrev pub LayoutStream : Type 2
   LayoutStream =

@@ -1,7 +1,7 @@
--- What demand 3 is about, in the sentences of 01, 'What the contracts say', 4, and of call 5: which bytes, packets and numbers a history has
--- after a call (`HistoryCounts` on the records and from C, `HistoryCountsInModel`), how a list goes on (`GoesOn`), and which lists of calls
--- are over a line (`AnyLine`, `AnyLineFromC`, `AnyMixedLine`, `AnyLineInModel`): all of those that 01 allows, so that the two-end theorems
--- leave none out. Statements only: the proofs are proofs/Histories.antt.
+-- What demand 3 is about, in the sentences of 01, 'What the contracts say', 4, and of call 5: which bytes, packets and numbers a history
+-- has after a call (`HistoryCounts` on the records and from C, `HistoryCountsInModel`), how a list of calls continues (`GoesOn`), and which
+-- lists are over a line (`AnyLine`, `AnyLineFromC`, `AnyMixedLine`, `AnyLineInModel`): all that 01 allows, so the two-end theorems leave
+-- none out. Statements only: the proofs are in proofs/Histories.antt.
 use Prim.Native.Nat.{ℕ, suc, _<_}
 use mathlib.Core.Path.{_≡_}
 use mathlib.Core.List.{List, [], _∷_, _++_, List·Memᴰ}
@@ -36,16 +36,16 @@ use Rattle.promise_ways.specs.Mixed.{Mixed, inC, asEvent, MixedDid, plainOf, Op
 
 -- what a history counts
 
--- a call that leaves a step and, of a take and a read, a buffer; from C the step is what the numbers stand for
+-- a call that leaves a step and, for a take or a read, a buffer; from C the step is the one that the numbers stand for
 pub record HistoryCounts : Type 0 where
-  -- "Each write brings its own bytes": those of its count are accepted, and went in pieces of up to 1,380
+  -- "Each write brings its own bytes": the first `count` are accepted, and went in pieces of up to 1,380
   pub write-accepts : (bytes buf : Bytes) (r : Step) (h : History) → noted (toWrite bytes) r buf h .accepted ≡ h .accepted ++ take (r .count) bytes
   pub write-sends : (bytes buf : Bytes) (r : Step) (h : History) → noted (toWrite bytes) r buf h .pieces ≡ h .pieces ++ cut (length bytes) 1_380 (take (r .count) bytes)
   -- "Bytes that a refused read put are read."
   pub read-reads : (buf buf′ : Bytes) (r : Step) (h : History) → noted (toRead buf) r buf′ h .reads ≡ h .reads ++ take (r .count) buf′
   pub refused-read-reads : (buf buf′ : Bytes) (r : Step) (h : History) (why : Refusal) → r .outcome ≡ Refused why
       → noted (toRead buf) r buf′ h .reads ≡ h .reads ++ take (r .count) buf′
-  -- a refused delivery counts as nothing; an accepted one "brought as DATA" just its number
+  -- a refused delivery adds nothing; an accepted one "brought as DATA" exactly its number
   pub refused-delivery : (datagram : Bytes) (clock : ℕ) (r : Step) (buf : Bytes) (h : History) (why : Refusal) → r .outcome ≡ Refused why
       → noted (toDeliver datagram clock) r buf h ≡ h
   pub data-delivery : (datagram : Bytes) (clock : ℕ) (r : Step) (buf : Bytes) (h : History) → r .outcome ≡ Ready → hasType 1 (fields datagram .typ) ≡ true
@@ -60,7 +60,7 @@ pub record HistoryCounts : Type 0 where
       → noted (toTake buf) r buf′ h .taken ≡ h .taken ++ ((b ∷ bytes) ∷ [])
   pub takes-none : (buf buf′ : Bytes) (r : Step) (h : History) → r .count ≡ 0 → noted (toTake buf) r buf′ h .taken ≡ h .taken
 
--- the same of an answer of the model
+-- the same for an answer of the model
 pub record HistoryCountsInModel : Type 0 where
   pub write-accepts : (bytes : Bytes) (a : Answer) (h : History) → model.noted (writeCall bytes) a h .accepted ≡ h .accepted ++ take (a .count) bytes
   pub write-sends : (bytes : Bytes) (a : Answer) (h : History) → model.noted (writeCall bytes) a h .pieces ≡ h .pieces ++ cut (length bytes) 1_380 (take (a .count) bytes)
@@ -78,9 +78,9 @@ pub record HistoryCountsInModel : Type 0 where
   -- "up to the first that puts none"
   pub unread-none : (e : End) → (read 1_380 e) .bytes ≡ [] → unreadInOrder e ≡ []
 
--- how a list goes on
+-- how a list of calls continues
 
--- each call goes on from what the one before it left, and is the definition's call with what its caller brought
+-- each call starts from what the one before it left, and is the model's call with what its caller brought
 pub record GoesOn : Type 0 where
   pub after-call : (v : Event) (vs : List Event) (x : Records)
       → runs.lastOf (v ∷ vs) x ≡ runs.lastOf vs (record { stream = v .step .stream; totals = v .step .totals; lent = v .lent })
@@ -134,19 +134,19 @@ pub record GoesOn : Type 0 where
 
 -- which lists are over a line
 
--- a call is no delivery
+-- a call that is not a delivery
 abbrev pub NoDelivery : Request → Type 0
 NoDelivery q = (datagram : Bytes) (clock : ℕ) → q ≡ toDeliver datagram clock → ⊥
 
--- "each delivery a copy of such a datagram; only a refused delivery may bring other bytes": `taken` are those of the other end, a refused
--- delivery may bring any
+-- "each delivery a copy of such a datagram; only a refused delivery may bring other bytes": `taken` are the other end's datagrams; a
+-- refused delivery may bring any
 pub data Allowed (taken : List Bytes) (o : Outcome) : Request → Type 0 where
   no-delivery : {q : Request} → NoDelivery q → Allowed taken o q
   copy : {datagram : Bytes} {clock : ℕ} → List·Memᴰ datagram taken → Allowed taken o (toDeliver datagram clock)
   refused : {datagram : Bytes} {clock : ℕ} (why : Refusal) → o ≡ Refused why → Allowed taken o (toDeliver datagram clock)
 
--- Any two ends that open handed out are a start, and any such call at either end makes a longer list over the line; reads alone are any
--- "1,380 at a time, .. up to the first that puts none". So too for lists of calls on one end, with any datagrams.
+-- Any two ends that open handed out are a start, and any such call at either end extends a list over the line; reads alone are any "1,380
+-- at a time, .. up to the first that puts none". Likewise for lists of calls on one end, with any datagrams.
 pub record AnyLine : Type 0 where
   pub opened : (local remote segments clock : ℕ) (l : Lent) (o : Opened) → Opens local remote segments clock (l .outgoing) (l .incoming) (l .headers) o
       → o .outcome ≡ Ready → OpenedBy local remote segments clock l o
@@ -176,7 +176,7 @@ pub record AnyLineFromC : Type 0 where
   pub no-call : (x : Plain) → PlainRun [] x
   pub one-more-call : (v : PlainEvent) (vs : List PlainEvent) (x : Plain) → PlainDid x v → PlainRun vs (plainLeft v) → PlainRun (v ∷ vs) x
 
--- with the ways mixed: a call from C is handed any numbers that stand for the records, such as those that another one handed back
+-- with the ways mixed: a call from C is handed any numbers that stand for the records, such as those that an earlier one handed back
 pub record AnyMixedLine : Type 0 where
   pub opened-in-rattle : (local remote segments clock : ℕ) (l : Lent) (o : Opened) → OpenedBy local remote segments clock l o
       → OpenedEither local remote segments clock l o
@@ -193,13 +193,13 @@ pub record AnyMixedLine : Type 0 where
       → MixedDid x v → MixedReadsAlone vs last (left (asEvent v)) → MixedReadsAlone (v ∷ vs) last x
   pub no-call : (x : Records) → MixedRun [] x
   pub one-more-call : (v : Mixed) (vs : List Mixed) (x : Records) → MixedDid x v → MixedRun vs (left (asEvent v)) → MixedRun (v ∷ vs) x
-  -- on any records the next call may be one from C
+  -- on any records the next call may be a call from C
   pub to-c : (x : Records) (v : PlainEvent) → PlainDid (plainOf x) v → MixedDid x (inC (plainOf x) v)
   -- and the one after it may be handed what that one handed back
   pub on-in-c : (p : Plain) (x : Records) (v next : PlainEvent) → MixedDid x (inC p v) → PlainDid (plainLeft v) next
       → MixedDid (left (eventOf v)) (inC (plainLeft v) next)
 
--- in the model a call answers by itself
+-- in the model, where a call's answer is computed
 abbrev pub NoDeliveryCall : Call → Type 0
 NoDeliveryCall q = (datagram : Bytes) (clock : ℕ) → q ≡ deliverCall datagram clock → ⊥
 
@@ -209,7 +209,7 @@ pub data AllowedCall (taken : List Bytes) (o : Outcome) : Call → Type 0 where
   refused : {datagram : Bytes} {clock : ℕ} (why : Refusal) → o ≡ Refused why → AllowedCall taken o (deliverCall datagram clock)
 
 pub record AnyLineInModel : Type 0 where
-  -- an id is any number of 4 bytes (01, 'Records': "stream id (4)")
+  -- an id is any 4-byte number (01, 'Records': "stream id (4)")
   pub any-id : (i : ℕ) → i < 4_294_967_296 → Id i
   pub none-yet : (w : model.Ends) → model.OverALine [] w
   pub on-a : (q : Call) (cs : List model.Command) (w : model.Ends) → AllowedCall (w .b .past .taken) ((answer q (w .a .end)) .outcome) q

@@ -1,8 +1,7 @@
--- 'Seventeen refusals, in checking order', in the sentences of 01: of each call, that the first of its refusals that applies is returned by
--- its number, that it returns no other number, and that it is not refused where none applies (`InOrder`); what a read answers by the
--- stream's error, and what header coding refuses.
--- Each follows from a field of `RefusalsInOrder` (model/specs/Order.antt); that of open on the records is stated here. Statements only: the
--- proofs are proofs/Refusals.antt.
+-- 'Seventeen refusals, in checking order', in the sentences of 01. For each call: the first of its refusals that applies is returned by
+-- number, no other number is returned, and the call is not refused if none applies (`InOrder`); then what a read returns for the stream's
+-- error, and what header coding refuses. Each follows from a field of `RefusalsInOrder` (model/specs/Order.antt); the one for open on the
+-- records is stated here. Statements only: the proofs are in proofs/Refusals.antt.
 use Prim.Native.Nat.{ℕ, _<_}
 use mathlib.Core.Path.{_≡_}
 use mathlib.Core.List.{List, [], _∷_, map, List·Memᴰ}
@@ -32,7 +31,7 @@ use Rattle.records.specs.Open.{storesTest, openWhy, Opens}
 abbrev pub noTest : Test
 noTest = record { holds = false; refusal = BrokenRecords }
 
--- "in checking order": of these tests the first that holds is answered by its number in 01's list
+-- "in checking order": the first of these tests that holds is answered by its number in 01's list
 abbrev pub FirstAnswers : List Test → List ℕ → Outcome → Type 0
 FirstAnswers tests numbers o =
     (k : ℕ) → getD tests k noTest .holds ≡ true → ((j : ℕ) → j < k → getD tests j noTest .holds ≡ false) → refusedBy o ≡ some (getD numbers k 0)
@@ -44,11 +43,11 @@ NoOther numbers o = (n : ℕ) → refusedBy o ≡ some n → List·Memᴰ n numb
 abbrev pub NoneHolds : List Test → Type 0
 NoneHolds tests = (k : ℕ) → getD tests k noTest .holds ≡ false
 
--- and where no test holds it is not refused
+-- and if no test holds it is not refused
 abbrev pub InOrder : List Test → List ℕ → Outcome → Type 0
 InOrder tests numbers o = FirstAnswers tests numbers o × NoOther numbers o × (NoneHolds tests → refusedBy o ≡ none)
 
--- open on the records: refusal 1 tests "the lengths only", then 3 and 4
+-- open on the records: refusal 1 checks "the lengths only", then come 3 and 4
 abbrev pub openTestsOn : (segments clock : ℕ) (outgoing incoming headers : Bytes) → List Test
 openTestsOn segments clock outgoing incoming headers =
     record { holds = storesTest outgoing incoming headers; refusal = BrokenRecords } ∷ openTests segments clock
@@ -58,7 +57,7 @@ pub record OpenRefusals : Type 0 where
   pub first-of : (segments clock : ℕ) (outgoing incoming headers : Bytes)
       → openWhy segments clock outgoing incoming headers ≡ first (openTestsOn segments clock outgoing incoming headers)
 
--- 14, 15, 16
+-- refusals 14, 15 and 16
 abbrev pub errorNumber : UdxError → Option ℕ
 errorNumber error.None = none
 errorNumber error.ConnectionReset = some 14

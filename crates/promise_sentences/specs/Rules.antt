@@ -1,5 +1,5 @@
--- Which calls keep the rules of the records from any end that keeps them, call by call; and that a read and a take need not. Statement
--- only: the proof is proofs/Rules.antt.
+-- Which calls keep the rules of the records from any end that keeps them, call by call; a read and a take need not. Statement only: the
+-- proof is in proofs/Rules.antt.
 use Prim.Native.Nat.{ℕ}
 use mathlib.Core.Path.{_≡_}
 use mathlib.Core.Bool.{true, false}
@@ -11,7 +11,7 @@ use Rattle.model.specs.Receiving.{deliver, read}
 use Rattle.model.specs.Driving.{drive, take}
 use Rattle.model_rules.specs.NeverBroken.{HasSlots}
 
--- the rules hold of both ends
+-- if the rules hold before, they hold after
 abbrev pub KeepRules : (before after : End) → Type 0
 KeepRules before after = HasSlots before → rules before ≡ true → HasSlots after × (rules after ≡ true)
 
@@ -20,6 +20,6 @@ pub record RuleSentences : Type 0 where
   pub deliver-keeps : (datagram : Bytes) (clock : ℕ) (e : End) → KeepRules e ((deliver datagram clock e) .end)
   pub drive-keeps : (clock : ℕ) (e : End) → KeepRules e ((drive clock e) .end)
   pub close-keeps : (e : End) → KeepRules e ((close e) .end)
-  -- not so of every end
+  -- these break a rule at some end
   pub read-breaks : (e : End) × HasSlots e × (rules e ≡ true) × (rules ((read 1 e) .end) ≡ false)
   pub take-breaks : (e : End) × HasSlots e × (rules e ≡ true) × (rules ((take 14_000 e) .end) ≡ false)

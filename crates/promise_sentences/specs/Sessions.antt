@@ -1,5 +1,6 @@
--- 'The session program' in 01's sentences: the ends that it runs and a turn of it, from the contracts of `fresh_end`, `open_ends` and
--- `run_one` word for word (`FreshEnd`, `OpensEnds` and `RunOne`, session_turn/proofs/Contracts.antt). Statements only: the proofs are proofs/Sessions.antt.
+-- 'The session program' in 01's sentences: the ends it runs and one turn of it, from the contracts of `fresh_end`, `open_ends` and
+-- `run_one` word for word (`FreshEnd`, `OpensEnds` and `RunOne`, session_turn/proofs/Contracts.antt). Statements only: the proofs are in
+-- proofs/Sessions.antt.
 use Prim.Native.Nat.{_≤_, _<_}
 use mathlib.Core.Path.{_≡_}
 use mathlib.Core.List.{[]}
@@ -29,7 +30,7 @@ use Rattle.promise_sentences.specs.Answers.{numbersOn}
 use Rattle.promise_sentences.specs.Calls.{freshNumbers, Promises}
 
 module _ {M : Type 1} (𝓤 : URA M) (H : Heap 𝓤) (A : Atoms 𝓤) (mem : Memory → SProp 𝓤) (run : Routine → Fun 𝓤) where
-  -- "opened at clock 0 with ceiling 10", over stores of 01's lengths; no datagram of it is kept
+  -- "opened at clock 0 with ceiling 10", over stores of 01's lengths; none of its datagrams is kept yet
   abbrev pub Ends : Type 2
   Ends =
       (κs : Lfts 3) (x : Args fresh.signature κs) (r : Res fresh.signature κs) (y : AtExit fresh.ended κs)
@@ -43,7 +44,7 @@ module _ {M : Type 1} (𝓤 : URA M) (H : Heap 𝓤) (A : Atoms 𝓤) (mem : Mem
       × (r .queue ≡ replicate 128 0)
       × ((store : Bytes) → keptOf (r .kept) store ≡ []))
 
-  -- "ends 0 (id 1) and 1 (id 2), opened at clock 0 with ceiling 10": the two that the program runs, over stores of its own
+  -- "ends 0 (id 1) and 1 (id 2), opened at clock 0 with ceiling 10": the two that the program runs, over its own stores
   abbrev pub Opening : Type 2
   Opening =
       (κs : Lfts 6) (x : Args open-ends.signature κs) (r : Res open-ends.signature κs) (y : AtExit open-ends.ended κs)
@@ -51,7 +52,7 @@ module _ {M : Type 1} (𝓤 : URA M) (H : Heap 𝓤) (A : Atoms 𝓤) (mem : Mem
       Promises 𝓤 (c .requires tt) (c .ensures tt r y)
       ((numbersOn (r .zero .stream) (r .zero .totals) ≡ freshNumbers 1 2 10 0) × (numbersOn (r .one .stream) (r .one .totals) ≡ freshNumbers 2 1 10 0))
 
-  -- a turn goes on in the script, and puts the line that the definition has for it
+  -- a turn advances in the script and puts the line that the definition has for it
   abbrev pub Turns : Type 2
   Turns =
       (κs : Lfts 11) (x : Args run-one.signature κs) (r : Res run-one.signature κs) (y : AtExit run-one.ended κs)

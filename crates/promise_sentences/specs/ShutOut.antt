@@ -1,7 +1,7 @@
 -- 01, 'What the contracts say', 2: "Shut out by demand 2: refusing every datagram, answering waiting to all writes, answering done or none
--- with packets queued, queuing everything in the first drive and idling later, inventing inflight or totals." What an answer says of the
--- end before the call so that it is none of these (`LiveAnswer`), each from a field of `NotDead` (model/specs/NotDead.antt). Statements
--- only: the proof is proofs/ShutOut.antt.
+-- with packets queued, queuing everything in the first drive and idling later, inventing inflight or totals." What an answer must satisfy,
+-- given the end before the call, to be none of these (`LiveAnswer`), each from a field of `NotDead` (model/specs/NotDead.antt). Statements
+-- only: the proof is in proofs/ShutOut.antt.
 use Prim.Native.Nat.{ℕ, _+_, _*_, _%_, _^_, _≤_, _<_, min}
 use mathlib.Core.Path.{_≡_}
 use mathlib.Core.List.{List, [], _∷_, _++_}
@@ -21,7 +21,7 @@ use Rattle.model.specs.Driving.{driveRefusal, takeRefusal}
 use Rattle.model.specs.Calls.{Call, writeCall, deliverCall, driveCall, takeCall, readCall, closeCall}
 
 pub record LiveWrite (bytes : Bytes) (e : End) (a : Answer) : Type 0 where
-  -- "answering waiting to all writes": a first piece that goes is accepted
+  -- "answering waiting to all writes": if the first piece goes, it is accepted
   pub accepts : writeRefusal bytes e ≡ none → 1 ≤ length bytes → goes (piece bytes) (e .sender) ≡ true → (a .outcome ≡ Ready) × (min (length bytes) 1_380 ≤ a .count)
   -- "inventing inflight or totals": each piece that went counts once, with 20 bytes of header in flight
   pub counts : (pieces : ℕ)
@@ -39,7 +39,7 @@ pub record LiveDrive (clock : ℕ) (e : End) (a : Answer) : Type 0 where
   -- "answering done .. with packets queued", or stored
   pub done : a .outcome ≡ Done → (e .ending .error ≡ error.None → ⊥) × (e .queue .entries ≡ []) × ((n : ℕ) → get (e .sender .outgoing) n ≡ none)
   -- "queuing everything in the first drive and idling later": what was queued still is, all of it is left to take, and a packet waits only
-  -- where the window has no room for the lowest that waits
+  -- if the window has no room for the lowest waiting one
   pub still-queued : a .outcome ≡ Ready → (more : List Entry) × (a .end .queue .entries ≡ e .queue .entries ++ more)
   pub all-left : a .outcome ≡ Ready → a .end .queue .left ≡ length (a .end .queue .entries)
   pub waits-for-room : a .outcome ≡ Ready → (n : ℕ) (p : Packet) → get (a .end .sender .outgoing) n ≡ some p → p .marks .waiting ≡ true

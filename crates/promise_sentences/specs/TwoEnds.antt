@@ -1,7 +1,7 @@
 -- Demand 3 in the sentences of 01, 'What the contracts say', 4, over plain byte sequences and numbers (`Carries`, `Lies`), after every list
--- of calls on two ends over a line: in the model, on the records, from C, and with the ways mixed. Each sentence follows from a field of the
--- promise that renders it, so a promise that lost the field, or says less there, no longer gives its sentence. Statements only: the proofs
--- are proofs/TwoEnds.antt.
+-- of calls on two ends over a line: in the model, on the records, from C, and with the ways mixed. Each sentence follows from the field of
+-- the promise that renders it, so if a promise lost the field, or said less there, the proof would fail. Statements only: the proofs are in
+-- proofs/TwoEnds.antt.
 use Prim.Native.Nat.{ℕ, _+_, _*_, _%_, _≤_, _<_}
 use mathlib.Core.Path.{_≡_}
 use mathlib.Core.List.{List, [], _++_, List·Memᴰ}
@@ -26,9 +26,9 @@ use Rattle.promise_ways.specs.Mixed.{Mixed, asEvents, OpenedEither, MixedTurn, 
 -- the sentences
 
 -- One direction. `accepted` are the bytes that the sender's writes accepted, `packets` "the pieces that went, numbered from 0 in order over
--- all writes", `seq` the number of the next one; `read` are the bytes that the receiver's reads put, `ack` is the one in its stream, `brought` the numbers that its deliveries,
--- "refused ones left out, brought as DATA". `Unread` is said of the bytes that reads alone would still put; `Stored` and `Held` of a number
--- and a payload under which the sender stores a packet, or the receiver holds one.
+-- all writes", `seq` is the number of the next one; `read` are the bytes that the receiver's reads put, `ack` is the one in its stream,
+-- `brought` the numbers that its deliveries, "refused ones left out, brought as DATA". `Unread` holds of the bytes that reads alone would
+-- still put; `Stored` and `Held` hold of a number and a payload if the sender stores, or the receiver holds, a packet with them.
 pub record Carries (accepted read : Bytes) (packets : List Bytes) (seq ack : ℕ) (brought : List ℕ) (Unread : Bytes → Type 0) (Stored Held : ℕ → Bytes → Type 0)
     : Type 0 where
   -- the bytes read are the first bytes accepted: none is missing, shifted or invented
@@ -38,11 +38,11 @@ pub record Carries (accepted read : Bytes) (packets : List Bytes) (seq ack : ℕ
   -- packets in number order."
   pub equation : (unread : Bytes) → Unread unread → accepted ≡ read ++ (unread ++ joined (drop ack packets))
   pub counts : (unread : Bytes) → Unread unread → length accepted ≡ length read + (length unread + length (joined (drop ack packets)))
-  -- every byte accepted went in a packet, and no packet has another byte
+  -- every byte accepted went in a packet, and packets have no other bytes
   pub all-went : accepted ≡ joined packets
-  -- "numbered from 0 in order over all writes": each number below seq is a packet's, and no other
+  -- "numbered from 0 in order over all writes": each number below seq is a packet's, and no other number is
   pub numbered : length packets ≡ seq
-  -- none of the packets at or past the receiver's ack is lost: the sender stores it still
+  -- no packet at or past the receiver's ack is lost: the sender still stores it
   pub none-lost : (n : ℕ) → ack ≤ n → n < length packets → Stored n (getD packets n [])
   -- "a packet stored or held is there under its number, with just that piece's bytes as payload"
   pub stored-is-piece : (n : ℕ) (payload : Bytes) → Stored n payload → (n < length packets) × (payload ≡ getD packets n [])
@@ -60,7 +60,7 @@ pub record Lies (outgoing incoming : Bytes) (packets : List Bytes) (ack : ℕ) (
   pub stored : (n i : ℕ) (payload : Bytes) → Stored n payload → i < length payload → getD outgoing (n % 32 * 1_400 + 20 + i) 0 ≡ getD payload i 0
   pub held : (n i : ℕ) (payload : Bytes) → Held n payload → i < length payload → getD incoming (n % 32 * 1_380 + i) 0 ≡ getD payload i 0
 
--- a packet of the model's under this number, whose payload is this
+-- a packet of the model with this number and this payload
 abbrev pub StoredWith : End → ℕ → Bytes → Type 0
 StoredWith e n payload = (p : Packet) × (get (e .sender .outgoing) n ≡ some p) × (drop 20 (p .bytes) ≡ payload)
 

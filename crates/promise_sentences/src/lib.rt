@@ -1,1 +1,1 @@
-// The sentences of 01 that the promises render have no code: specs/ says each in 01's words, proofs/ derives it from its field.
+// This crate has no code: specs/ states the sentences of 01 that the promises render, in 01's words; proofs/ derives each from its field.

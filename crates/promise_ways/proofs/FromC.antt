@@ -1,6 +1,6 @@
--- Demands 2 and 3 from C: each call on numbers that stand for records is the call on those records (`one`), and what it hands back stands
--- for the records after it, with no strange byte; so a list of calls from C is a list of calls on the records, and their theorems hold of
--- it.
+-- Demands 2 and 3 from C: a call on numbers that stand for records is the call on those records (`one`), and what it hands back stands for
+-- the records after it and has no invalid byte (`isStrange`). So a list of calls from C is a list of calls on the records, and their
+-- theorems hold for it.
 use Prim.Native.Nat.{ℕ}
 use native.Mathlib.Omega.{arith}
 use mathlib.Core.Path.{_≡_, refl, ap, sym, _∙_}
@@ -50,7 +50,7 @@ use Rattle.promise_ways.specs.Calls.{
 }
 use Rattle.promise_ways.specs.FromC.{SameFromC, PlainSide, sideOf, PlainEnds, PlainTurn, onA, onB, plainTurned, plainLastOf, PlainOverALine, bothOpenedInC, PlainReadsAlone, CarriedInC, TwoEndsFromC}
 
--- the numbers of an answer stand for it again
+-- turning an answer into numbers and back gives the same answer
 
 refusal-back : (why : Refusal) → refusalOf (numberOf why) ≡ why
 refusal-back refusal.BrokenRecords = refl
@@ -94,7 +94,7 @@ pub opened-known : (o : Opened) → isStrange (flatOpened o .stream .ending) ≡
 unfolding flatOpened
 opened-known o = comes-back .known (o .stream)
 
--- refusal 1 has the number 1, and nothing else has
+-- only refusal 1 has the number 1
 pub one-is : (why : Refusal) → numberOf why ≡ 1 → why ≡ refusal.BrokenRecords
 one-is why e = sym (refusal-back why) ∙ ap refusalOf e
 
@@ -109,7 +109,7 @@ step-broken : (r : Step) → flatStep r .refusal ≡ 1 → r .outcome ≡ outcom
 unfolding flatStep
 step-broken r e = broken-is (r .outcome) e
 
--- one call: what it is on the records; what it hands back has no strange byte; and its refusal 1 is refusal 1
+-- one call: what it is on the records; what it hands back has no invalid byte; and its refusal number 1 is refusal 1
 
 pub record Done (r : FlatStep) (did : Type 0) : Type 0 where
   pub does : did
@@ -191,7 +191,7 @@ abbrev turnsOf : List PlainTurn → List records.Turn
 turnsOf [] = []
 turnsOf (c ∷ cs) = turnOf c ∷ turnsOf cs
 
--- neither end has a strange byte
+-- neither end has an invalid byte
 abbrev pub Known : PlainEnds → Type 0
 Known w = (isStrange (w .a .plain .stream .ending) ≡ false) × (isStrange (w .b .plain .stream .ending) ≡ false)
 

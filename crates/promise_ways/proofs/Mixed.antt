@@ -1,5 +1,5 @@
 -- Lists that mix the ways to make a call: a call from C on numbers that stand for the records is the call on those records (`one`, in
--- FromC.antt), so a mixed list is a list of calls on the records, and their theorems hold of it.
+-- FromC.antt), so a mixed list is a list of calls on the records, and their theorems hold for it.
 use Prim.Native.Nat.{ℕ}
 use mathlib.Core.Path.{refl, ap, _∙_, subst}
 use mathlib.Core.List.{List, [], _∷_}

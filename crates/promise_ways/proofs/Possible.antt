@@ -1,6 +1,6 @@
--- Calls on the records are calls from C (`did-plain`): numbers without a strange byte stand for records, and the step of a call on these,
--- as numbers, satisfies the contract of the C function and stands for the step again. So calls that exist on the records exist from C, and
--- reads alone among them (`every-read-out-from-c`).
+-- Calls on the records are calls from C (`did-plain`): numbers without an invalid byte stand for records, and the step of a call on these,
+-- turned into numbers, satisfies the contract of the C function and stands for the same step. So calls that exist on the records exist from
+-- C, reads alone among them (`every-read-out-from-c`).
 use Prim.Native.Nat.{ℕ}
 use mathlib.Core.Path.{_≡_, refl, sym, ap, ap₂, _∙_, subst}
 use mathlib.Core.Bool.{true, false, true≢false}
@@ -32,7 +32,7 @@ use Rattle.promise_ways.proofs.FromC.{step-back, opened-back, step-know
 
 -- one call
 
--- a call on the records as one from C
+-- a call on the records as a call from C
 abbrev plainOf : Event → PlainEvent
 plainOf v = record { request = v .request; step = flatStep (v .step); lent = v .lent; buf = v .buf }
 
@@ -58,7 +58,7 @@ module _ (x : Plain) (k : isStrange (x .stream .ending) ≡ false) where
   did-plain : (v : Event) → Did (recordsOf x) v → PlainDid x (plainOf v)
   did-plain v d = did-with (v .request) (v .step) (v .lent) (v .buf) d
 
--- what is left stands for what is left on the records
+-- the numbers left stand for the records left
 left-for : (v : Event) → recordsOf (plainLeft (plainOf v)) ≡ left v
 left-for v = ap left (stands-for v)
 
@@ -81,7 +81,7 @@ module _ (local remote segments clock : ℕ) (l : Lent) (o : Opened) (h : Opened
   unfolding flatOpened
   opens-plain = record { opens = record { opened = o; does = h .opens; flat = refl }; ready = rw (h .ready) refl }
 
--- the numbers that it hands out stand for its records
+-- the numbers that open hands out stand for its records
 opened-for : (o : Opened) (l : Lent) → recordsOf (plainOpened (flatOpened o) l) ≡ handedOut o l
 opened-for o l = ap (λ (r : Opened). handedOut r l) (opened-back o)
 
@@ -103,7 +103,7 @@ record InC (turns : List records.Turn) (p : PlainEnds) : Type 0 where
   line : PlainOverALine plain p
   last : endsOf (plainLastOf plain p) ≡ records.lastOf turns (endsOf p)
 
--- what was brought is told by the outcome
+-- the numbers preserve the outcome, and so `Brings`
 brings : (v : Event) (y : PlainSide) → records.Brings (v .request) (v .step .outcome) (sideOf y) → records.Brings (v .request) (stepOf (flatStep (v .step)) .outcome) (sideOf y)
 brings v y b = subst (λ (r : Step). records.Brings (v .request) (r .outcome) (sideOf y)) (sym (step-back (v .step))) b
 

@@ -1,5 +1,5 @@
--- Calls as a caller in C or Rust makes them, on plain numbers, and what they are on the records. What is known of such a call is the
--- contract of the C function and nothing more (`PlainDid`; that it is that contract word for word is Contracts.antt).
+-- Calls on plain numbers, as a caller in C or Rust makes them, and what they are on the records. Such a call is exactly what the contract
+-- of the C function says (`PlainDid`; Contracts.antt states that it is that contract word for word).
 use Prim.Native.Nat.{ℕ, _-_}
 use mathlib.Core.Path.{_≡_}
 use mathlib.Core.Bool.{true, cond}
@@ -34,7 +34,7 @@ pub record Plain : Type 0 where
   pub totals : FlatTotals
   pub lent : Lent
 
--- a request, and what the C function left: the numbers that it handed back, the words and stores after it, and the buffer after it
+-- a request and what the C function left: the numbers it handed back, the words and stores, and the buffer
 pub record PlainEvent : Type 0 where
   pub request : Request
   pub step : FlatStep
@@ -61,7 +61,7 @@ PlainDidWith x toClose r after buf′ = Crosses (Answers model.close) (x .stream
 abbrev pub PlainDid : Plain → PlainEvent → Type 0
 PlainDid x v = PlainDidWith x (v .request) (v .step) (v .lent) (v .buf)
 
--- what the numbers of an answer stand for; include/udx.h has the same list
+-- what the numbers of an answer mean; include/udx.h has the same list
 
 -- 01, 'Seventeen refusals, in checking order'
 abbrev pub refusals : List Refusal
@@ -105,7 +105,7 @@ stepOf r =
 abbrev pub openedOf : FlatStep → Opened
 openedOf r = record { outcome = outcomeOf (r .outcome) (r .refusal); stream = streamOf (r .stream); totals = totalsOf (r .totals) }
 
--- an end and a call on it as the theorems over lists of calls take them
+-- an end and a call on it in the form that the theorems over lists of calls use
 
 abbrev pub recordsOf : Plain → Records
 recordsOf x = record { stream = streamOf (x .stream); totals = totalsOf (x .totals); lent = x .lent }
@@ -127,7 +127,7 @@ abbrev pub plainLast : List PlainEvent → Plain → Plain
 plainLast [] x = x
 plainLast (v ∷ vs) x = plainLast vs (plainLeft v)
 
--- a `udx_open` that answered ok, over stores of the caller's
+-- a `udx_open` that returned ok, over the caller's stores
 pub record OpenedInC (local remote segments clock : ℕ) (l : Lent) (o : FlatStep) : Type 0 where
   pub opens : FlatOpens local remote segments clock (l .outgoing) (l .incoming) (l .headers) o
   pub ready : o .outcome ≡ 0

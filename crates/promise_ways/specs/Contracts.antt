@@ -1,8 +1,7 @@
 -- A call from C on plain numbers (`PlainDid`, in Calls.antt) is the contract of the C function, word for word: with the numbers, words,
--- stores and buffers that it was lent and those that it left, its `ensures` is `PlainDid`, and it requires nothing. So a C function that
--- says less, or asks for more, is noticed here; `udx_look`, `udx_open`, header coding and the layout functions are beside the six, each with
--- its own definition. `x` are the parameters, `y` what they are at the end, `r` is the result. Statements only: the proof is
--- proofs/Contracts.antt.
+-- stores and buffers before and after the call, its `ensures` is `PlainDid`, and it requires nothing. So a C function that ensures less or
+-- requires more fails here. `udx_look`, `udx_open`, header coding and the layout functions are covered too, each with its own definition.
+-- `x` are the parameters, `y` their values at the end, `r` is the result. Statements only: the proof is in proofs/Contracts.antt.
 use mathlib.Core.Path.{_≡_}
 use mathlib.Core.List.{[], _++_}
 use lib.ListN.{replicate}

@@ -1,6 +1,6 @@
 -- Demands 2 and 3 for callers in C and Rust: for every list of calls from `udx_open` in which each call is handed the numbers, words and
--- stores that the one before it left. The statements are `SameFromC` and `TwoEndsFromC`; they are those of the crate `promise`, of what
--- such callers saw. Statements only: the proofs are proofs/FromC.antt.
+-- stores that the one before it left. The statements are `SameFromC` and `TwoEndsFromC`: those of the crate `promise`, about what such
+-- callers saw. Statements only: the proofs are in proofs/FromC.antt.
 use Prim.Native.Nat.{ℕ}
 use mathlib.Core.Path.{_≡_}
 use mathlib.Core.List.{List, [], _∷_}
@@ -31,15 +31,15 @@ use Rattle.promise_ways.specs.Calls.{
 
 -- demand 2
 
--- what holds of numbers x after some calls, and of the next call, whichever it is
+-- what holds of the numbers x after some calls, and of the next call, whichever it is
 pub record SameInC (x : Plain) (e : End) : Type 0 where
   -- they stand for records that are the model's end
   pub records : Same (recordsOf x) e
-  -- the next call answers the model's outcome, count, bytes and segment size and leaves the model's end
+  -- the next call returns the model's outcome, count, bytes and segment size and leaves the model's end
   pub next : (v : PlainEvent) → PlainDid x v → answerOf (eventOf v) ≡ answer (callOf (v .request)) e
   -- 01, refusal 1: "(never so after calls from a fresh stream)"
   pub unbroken : (v : PlainEvent) → PlainDid x v → v .step .refusal ≡ 1 → ⊥
-  -- the part that `udx_look` names lies in its store and has just the bytes that the model shows
+  -- the part that `udx_look` returns is within its store and has exactly the bytes that the model shows
   pub shown : (part : FlatPart) → Looks (x .stream) (x .totals) (x .lent) part → ShownBy (look e) (x .lent .outgoing) (x .lent .headers) part
 
 abbrev pub SameFromC : Type 0
@@ -80,7 +80,7 @@ abbrev pub plainLastOf : List PlainTurn → PlainEnds → PlainEnds
 plainLastOf [] w = w
 plainLastOf (c ∷ cs) w = plainLastOf cs (plainTurned c w)
 
--- a call did what its contract says, and if it is a delivery it brought a copy of a datagram that the other end's takes put, or was refused
+-- a call did what its contract says and, if it is a delivery, brought a copy of a datagram that the other end's takes put, or was refused
 abbrev pub PlainFits : PlainEvent → PlainSide → PlainSide → Type 0
 PlainFits v x other = PlainDid (x .plain) v × Brings (v .request) (stepOf (v .step) .outcome) (sideOf other)
 
@@ -98,12 +98,12 @@ openedSide o l = record { plain = plainOpened o l; past = noHistory }
 abbrev pub bothOpenedInC : (a b : FlatStep) (lentA lentB : Lent) → PlainEnds
 bothOpenedInC a b lentA lentB = record { a = openedSide a lentA; b = openedSide b lentB }
 
--- "reads alone, 1,380 at a time, .. up to the first that puts none": reads from C, the last one puts none
+-- "reads alone, 1,380 at a time, .. up to the first that puts none": reads from C; the last one puts none
 abbrev pub PlainReadsAlone : List PlainEvent → PlainEvent → Plain → Type 0
 PlainReadsAlone [] last x = IsRead (eventOf last) × PlainDid x last × (last .step .count ≡ 0)
 PlainReadsAlone (v ∷ vs) last x = IsRead (eventOf v) × PlainDid x v × PlainReadsAlone vs last (plainLeft v)
 
--- what is promised of the records that the numbers stand for; and what is unread in order is what reads from C put
+-- the promise holds of the records that the numbers stand for, and what is unread in order is what reads from C put
 pub record CarriedInC (s r : PlainSide) : Type 0 where
   pub carried : Carried (sideOf s) (sideOf r)
   pub unread : (vs : List PlainEvent) (last : PlainEvent) → PlainReadsAlone vs last (r .plain)

@@ -1,7 +1,7 @@
 -- Demands 2 and 3 for lists that mix the ways to make a call: on the same end, calls of crate `udx`, calls with the totals lent (each is a
--- call on the records, LentTotals.antt) and calls from C, in any order, opened in either way. A call from C is handed any numbers that stand
--- for the records of that moment. Such a list is a list of calls on the records, so their promises hold after it: `SameMixed` and
--- `TwoEndsMixed`. `Crossing` says that such numbers can always be had. Statements only: the proofs are proofs/Mixed.antt.
+-- call on the records, LentTotals.antt) and calls from C, in any order, opened in either way. A call from C is handed any numbers that
+-- stand for the records at that moment. Such a list is a list of calls on the records, so their promises hold after it: `SameMixed` and
+-- `TwoEndsMixed`. `Crossing` says that such numbers always exist. Statements only: the proofs are in proofs/Mixed.antt.
 use Prim.Native.Nat.{ℕ}
 use mathlib.Core.Path.{_≡_}
 use mathlib.Core.Bool.{false}
@@ -25,14 +25,14 @@ use Rattle.udx_c.specs.declared.look.FlatPart.{FlatPart}
 use Rattle.udx_c.specs.Shown.{ShownBy, Looks}
 use Rattle.promise_ways.specs.Calls.{Plain, PlainEvent, PlainDid, plainLeft, openedOf, recordsOf, eventOf, OpenedInC}
 
--- numbers that stand for records: no byte of them is strange, and words and stores are the same
+-- numbers that stand for records: no byte of them is invalid (`isStrange`), and words and stores are the same
 pub record StandsFor (p : Plain) (x : Records) : Type 0 where
   pub known : isStrange (p .stream .ending) ≡ false
   pub records : recordsOf p ≡ x
 
--- a call in either way
+-- a call made in either way
 
--- a call from C comes with the numbers that it was handed
+-- a call from C comes with the numbers it was handed
 pub data Mixed : Type 0 where
   inRattle : Event → Mixed
   inC : Plain → PlainEvent → Mixed
@@ -50,7 +50,7 @@ abbrev pub MixedDid : Records → Mixed → Type 0
 MixedDid x (inRattle v) = Did x v
 MixedDid x (inC p v) = StandsFor p x × PlainDid p v
 
--- an open in either way that was not refused
+-- an open, made in either way, that was not refused
 abbrev pub OpenedEither : (local remote segments clock : ℕ) → Lent → Opened → Type 0
 OpenedEither local remote segments clock l o =
     OpenedBy local remote segments clock l o ⊎ ((f : FlatStep) × OpenedInC local remote segments clock l f × (openedOf f ≡ o))
@@ -74,11 +74,12 @@ MixedRun (v ∷ vs) x = MixedDid x v × MixedRun vs (left (asEvent v))
 
 pub record SameEitherWay (x : Records) (e : End) : Type 0 where
   pub records : Same x e
-  -- the next call, in whichever way, answers the model's outcome, count, bytes and segment size and leaves the model's end
+  -- the next call, made in either way, returns the model's outcome, count, bytes and segment size and leaves the model's end
   pub next : (v : Mixed) → MixedDid x v → answerOf (asEvent v) ≡ answer (callOf (asEvent v .request)) e
   -- 01, refusal 1: "(never so after calls from a fresh stream)"
   pub unbroken : (v : Mixed) → MixedDid x v → asEvent v .step .outcome ≡ Refused BrokenRecords → ⊥
-  -- the part that `udx_look` names on any numbers that stand for the records lies in its store and has just the bytes that the model shows
+  -- the part that `udx_look` returns on any numbers that stand for the records is within its store and has exactly the bytes that the model
+  -- shows
   pub shown : (p : Plain) → StandsFor p x → (part : FlatPart) → Looks (p .stream) (p .totals) (p .lent) part
       → ShownBy (look e) (p .lent .outgoing) (p .lent .headers) part
 
@@ -103,7 +104,7 @@ abbrev pub asTurns : List MixedTurn → List Turn
 asTurns [] = []
 asTurns (c ∷ cs) = asTurn c ∷ asTurns cs
 
--- a call did what its contract says, and if it is a delivery it brought a copy of a datagram that the other end's takes put, or was refused
+-- a call did what its contract says and, if it is a delivery, brought a copy of a datagram that the other end's takes put, or was refused
 abbrev pub MixedFits : Mixed → Side → Side → Type 0
 MixedFits v x other = MixedDid (x .records) v × Brings (asEvent v .request) (asEvent v .step .outcome) other
 
@@ -115,7 +116,7 @@ abbrev pub MixedOverALine : List MixedTurn → Ends → Type 0
 MixedOverALine [] w = Unit {0}
 MixedOverALine (c ∷ cs) w = MixedFitsEnds c w × MixedOverALine cs (turned (asTurn c) w)
 
--- "reads alone, 1,380 at a time, .. up to the first that puts none", each in either way
+-- "reads alone, 1,380 at a time, .. up to the first that puts none", each made in either way
 abbrev pub MixedReadsAlone : List Mixed → Mixed → Records → Type 0
 MixedReadsAlone [] last x = IsRead (asEvent last) × MixedDid x last × (asEvent last .step .count ≡ 0)
 MixedReadsAlone (v ∷ vs) last x = IsRead (asEvent v) × MixedDid x v × MixedReadsAlone vs last (left (asEvent v))

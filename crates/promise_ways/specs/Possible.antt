@@ -1,7 +1,7 @@
--- The hypotheses of the theorems from C are satisfiable: there are numbers, words and stores after each call that satisfy the contracts of
--- the C functions, for every list of requests (`EveryRunFromC`), for whatever two ends of the model do over a line (`EveryLineFromC`), for
--- bytes that one end carries to the other (`PossibleFromC`), and for the reads that tell what is unread (`EveryReadOutFromC`). The same as
--- promise/specs/Possible.antt, on plain numbers. Statements only: the proofs are proofs/Possible.antt.
+-- The hypotheses of the theorems from C are satisfiable: numbers, words and stores that satisfy the contracts of the C functions exist
+-- after each call, for every list of requests (`EveryRunFromC`), for whatever two ends of the model do over a line (`EveryLineFromC`), for
+-- bytes that one end carries to the other (`PossibleFromC`), and for the reads that show what is unread (`EveryReadOutFromC`). The same as
+-- promise/specs/Possible.antt, on plain numbers. Statements only: the proofs are in proofs/Possible.antt.
 use Prim.Native.Nat.{ℕ, _≤_}
 use mathlib.Core.Path.{_≡_}
 use mathlib.Core.List.{List, [], _∷_, _++_}
@@ -19,14 +19,14 @@ use Rattle.promise_ways.specs.FromC.{PlainSide, sideOf, PlainEnds, Plain
 
 -- one end
 
--- each request was made, by a call that did what the contract of its C function says and left words of the same lengths
+-- each request was made by a call that did what the contract of its C function says and left words of the same lengths
 abbrev pub MakesInC : List Request → List PlainEvent → Plain → Type 0
 MakesInC [] [] x = Unit {0}
 MakesInC [] (v ∷ vs) x = ⊥
 MakesInC (q ∷ qs) [] x = ⊥
 MakesInC (q ∷ qs) (v ∷ vs) x = (v .request ≡ q) × PlainDid x v × WordLengths (v .lent) × MakesInC qs vs (plainLeft v)
 
--- From a `udx_open` that answered ok, every list of requests, with any bytes to deliver, is that of some calls.
+-- From a `udx_open` that returned ok, every list of requests, with any bytes to deliver, can be made.
 abbrev pub EveryRunFromC : Type 0
 EveryRunFromC =
     (local remote segments clock : ℕ) (l : Lent)
@@ -42,8 +42,8 @@ askedInC [] = []
 askedInC (onA v ∷ cs) = ofA (v .request) ∷ askedInC cs
 askedInC (onB v ∷ cs) = ofB (v .request) ∷ askedInC cs
 
--- For every list of calls over a line that the model's `TwoEnds` speaks of, there are calls from C with the same requests, so
--- `TwoEndsFromC` speaks of it too.
+-- For every list of calls over a line that the model's `TwoEnds` covers, there are calls from C with the same requests, so `TwoEndsFromC`
+-- covers it too.
 abbrev pub EveryLineFromC : Type 0
 EveryLineFromC =
     (i j segmentsA segmentsB clockA clockB : ℕ) (lentA lentB : Lent)
@@ -57,8 +57,7 @@ EveryLineFromC =
     → model.OverALine (commandsFor asked) (model.bothOpened i j segmentsA segmentsB clockA clockB)
     → (turns : List PlainTurn) × (askedInC turns ≡ asked) × PlainOverALine turns (bothOpenedInC a b lentA lentB))
 
--- 01, 'Calls', 2 to 6: bytes are written, driven and taken at a, and "a copy of such a datagram", the one that was taken, is delivered and
--- read at b
+-- 01, 'Calls', 2 to 6: bytes are written, driven and taken at a, and "a copy of such a datagram", the one taken, is delivered and read at b
 pub record TrafficInC (clockA clockB : ℕ) (bytes batch room : Bytes) (w : PlainEnds) : Type 0 where
   pub turns : List PlainTurn
   pub datagram : Bytes
@@ -90,15 +89,15 @@ PossibleFromC =
 
 -- what is unread
 
--- "reads alone, 1,380 at a time, .. up to the first that puts none", from C, at the receiver r; what they put stands between the bytes
--- read and the packets at or past the receiver's ack in what the sender s accepted
+-- "reads alone, 1,380 at a time, .. up to the first that puts none", from C, at the receiver r. In what the sender s accepted, the bytes
+-- they put come between the bytes read and the packets at or past the receiver's ack
 pub record ReadOutInC (s r : PlainSide) : Type 0 where
   pub reads : List PlainEvent
   pub last : PlainEvent
   pub alone : PlainReadsAlone reads last (r .plain)
   pub accepted : s .past .accepted ≡ r .past .reads ++ (putByReads (eventsOf reads) ++ joined (drop (ackOf (sideOf r)) (s .past .pieces)))
 
--- Such reads exist at either end after every list of calls over a line, so what `CarriedInC` says of all such reads is not empty.
+-- Such reads exist at either end after every list of calls over a line, so what `CarriedInC` says of all such reads is not vacuous.
 abbrev pub EveryReadOutFromC : Type 0
 EveryReadOutFromC =
     (i j segmentsA segmentsB clockA clockB : ℕ)

@@ -1,1 +1,1 @@
-// The promise of the other ways to make a call, with the totals lent and from C, has no code: specs/ says it, proofs/ why it holds.
+// This crate has no code: specs/ says what is promised of calls with the totals lent and of calls from C, proofs/ why it holds.

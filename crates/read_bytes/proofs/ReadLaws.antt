@@ -1,6 +1,6 @@
--- A read on the records against the model: a packet's bytes, the model's read by cases, and the loop. What was put so far, joined with
--- what the model has still to read, is the model's whole read; every turn passes one number below top, so that the model's 32 packets
--- are enough.
+-- A read on the records agrees with the model: a packet's bytes, the model's read by cases, and the loop. Invariant: the bytes put so far,
+-- joined with what the model still has to read, are the model's whole read. Every turn passes one number below top, so the model's 32
+-- packets are enough.
 use Prim.Native.Nat.{ℕ, zero, suc, _+_, _-_, _*_, _%_, _≤_, _<_}
 use native.Mathlib.Numerals.{add-one}
 use native.Mathlib.Omega.{arith}
@@ -34,7 +34,7 @@ left-length store p = simp (length-drop, cut-length) refl
 
 module _ {p : Held} {store buf : Bytes} {at count : ℕ} (a : CanPut p store buf at count) {bytes : Bytes}
     (is : bytes ≡ take (p .offset + count - p .offset) (drop (p .number % 32 * 1_380 + p .offset) store)) where
-  -- the next ones lie in the store from the read offset on
+  -- the next ones are in the store from the read offset on
   lies : bytes ≡ take count (leftBytes store p)
   lies =
       let f = a .fit in
@@ -70,7 +70,7 @@ module _ (room : ℕ) (r : model.Receiver) where
     unfolding readLoop
     read-whole l = rw (e, le-ltb room (length (rest h)) l) refl
 
--- what was put so far, and what is still to be read
+-- the bytes put so far, joined with the rest of the read
 abbrev joined : Bytes → Bool → Got → Got
 joined bytes any g = record { bytes = bytes ++ g .bytes; ready = any || g .ready; receiver = g .receiver }
 
@@ -88,7 +88,7 @@ or-true false = refl
 abbrev visits : Receiver → Receiver → ℕ
 visits r s = (r .«read_cursor» + ceiling) - s .«read_cursor»
 
--- what holds whenever the loop's test is reached; `bytes` were put so far
+-- the loop's invariant; `bytes` were put so far
 pub record Going (r : Receiver) (words₀ : List ℕ) (store buf₀ : Bytes) (s : Receiver) (words : List ℕ) (buf : Bytes) (count : ℕ) (any : Bool) : Type 0 where
   pub readable : Readable r words₀ store
   pub kept : words ≡ words₀
@@ -126,7 +126,7 @@ read-starts r words store buf a =
       same = rw (e, z) refl;
     }
 
--- the read cursor is one more
+-- the read cursor plus one
 abbrev oneMore : Receiver → Receiver
 oneMore s = record { ack = s .ack; «read_cursor» = s .«read_cursor» + 1; top = s .top }
 
@@ -143,7 +143,7 @@ module _ {r : Receiver} {words₀ : List ℕ} {store buf₀ : Bytes} {s : Receiv
       let c = g .passed in
       omega arith
 
-  -- more bytes, put next to the others
+  -- more bytes, put after the others
   next : (y : Bytes) {buf′ : Bytes} → count + length y ≤ length buf₀ → buf′ ≡ put buf count y → buf′ ≡ put buf₀ 0 (g .bytes ++ y)
   next y l e =
       e ∙ ap (λ (b : Bytes). put b count y) (g .copied)

@@ -1,4 +1,4 @@
--- What a read does to the receiving group and to the caller's buffer.
+-- What a read does to the receiver and to the caller's buffer.
 use Prim.Native.Nat.{ℕ, _+_, _-_, _%_, _^_, _≤_, _<_}
 use mathlib.Core.Path.{_≡_}
 use mathlib.Core.List.{List}
@@ -20,12 +20,12 @@ pub record Fit (p : Held) : Type 0 where
   pub short : p .past - 1 ≤ 1_380
   pub inside : p .offset ≤ p .past - 1
 
--- every held packet keeps its rule
+-- every held packet obeys that rule
 abbrev pub HeldFit : Receiver → List ℕ → Type 0
 HeldFit r held =
     (n : ℕ) → r .«read_cursor» ≤ n → n < r .top → isHeld (heldOf (getD held (n % ceiling) 0)) n ≡ true → Fit (heldOf (getD held (n % ceiling) 0))
 
--- the records that a read may meet: what 01's rules and the layout say of them
+-- a read's precondition: what 01's rules and the layout guarantee
 pub record Readable (r : Receiver) (held : List ℕ) (incoming : Bytes) : Type 0 where
   pub store : length incoming ≡ 44_160
   pub laid : LaidReceiver r
@@ -38,19 +38,19 @@ leftCount p = (p .past - 1) - p .offset
 abbrev pub leftBytes : Bytes → Held → Bytes
 leftBytes incoming p = rest (heldPayload incoming (p .number % ceiling) p)
 
--- that many bytes of what is left of a packet can be put into a buffer from a place on
+-- `count` more bytes of a packet can be put into the buffer at `at`
 pub record CanPut (p : Held) (incoming buf : Bytes) (at count : ℕ) : Type 0 where
   pub store : length incoming ≡ 44_160
   pub fit : Fit p
   pub enough : count ≤ leftCount p
   pub room : at + count ≤ length buf
 
--- more of a packet has been read
+-- the packet after k more bytes were read
 abbrev pub movedBy : ℕ → Held → Held
 movedBy k p = record { number = p .number; past = p .past; offset = p .offset + k }
 
--- the front part of a packet that is longer than the room: it fills the buffer, and the packet's read offset moves. With it what `sized`
--- and the packet's type say.
+-- the front part of a packet that is longer than the room: it fills the buffer, and the packet's read offset moves. `long` and `number`
+-- come from `word_count` and from the packet's type.
 pub record Front (p : Held) (incoming : Bytes) (at : ℕ) (held : List ℕ) (buf : Bytes) (held′ : List ℕ) (buf′ : Bytes) : Type 0 where
   pub long : length held ≡ 32
   pub number : p .number < 2 ^ 32

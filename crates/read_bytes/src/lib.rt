@@ -1,5 +1,5 @@
-// Bytes read in order: whole packets from the read cursor on, and the front part of one that is longer than the room left. The receiver's
-// numbers go by value; the held packets are words of a lent array, and their bytes are in the lent incoming store.
+// Reads bytes in order: whole packets from the read cursor on, and the front part of one that is longer than the room left. The receiver's
+// numbers are passed by value; the held packets are words of a lent array, their bytes are in the lent incoming store.
 ghost use mathlib.Core.Path.{_≡_};
 ghost use Prim.Native.Nat.{_-_};
 ghost use lib.ListN.{length, take};
@@ -20,7 +20,7 @@ use records::word_count;
 // What a read did.
 pub struct Read {
     pub receiver: Receiver,
-    // Bytes put into the buffer, front part included; the rest of the buffer stays.
+    // Bytes put into the buffer, a front part included; the rest of the buffer is unchanged.
     pub count: usize,
     // A packet was finished: the read answers ready.
     pub finished: bool,
@@ -47,8 +47,8 @@ fn put_next(buf: &mut [u8], at: usize, incoming: &[u8], p: Held, count: u32)
     records_stores::put_at(buf, at, bytes);
 }
 
-// Puts the front part of a packet that is longer than what remains of the buffer, and moves its read offset past that part. The buffer
-// is full then.
+// Puts the front part of a packet that is longer than what remains of the buffer, and moves its read offset past that part. This fills
+// the buffer.
 fn read_front(held: &mut [u64; 32], incoming: &[u8], buf: &mut [u8], at: usize, p: Held)
     requires { ⌜ CanPut p (now incoming) (now buf) at (length (now buf) - at) ⌝ }
     ensures { λ _. ⌜ Front p (now (incoming .entry)) at (now (held .entry)) (now (buf .entry)) (now (held .exit))
@@ -65,8 +65,8 @@ fn read_front(held: &mut [u64; 32], incoming: &[u8], buf: &mut [u8], at: usize, 
     records::put_held(held, q);
 }
 
-// Puts what is held in order into buf, from the read cursor on: whole packets while they fit, and the front part of the next one. The
-// word of a finished packet stays: with the read cursor past its number it is no packet any more.
+// Puts what is held in order into buf, from the read cursor on: whole packets while they fit, and the front part of the next one. A
+// finished packet's word stays: once the read cursor is past its number, it no longer counts.
 pub fn read_next(r: Receiver, held: &mut [u64; 32], incoming: &[u8], buf: &mut [u8]) -> Read
     requires { ⌜ Readable r (now held) (now incoming) ⌝ }
     ensures { λ a. ⌜ HasRead r (now (held .entry)) (now (incoming .entry)) (now (buf .entry)) a (now (held .exit))

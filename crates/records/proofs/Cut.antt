@@ -1,5 +1,5 @@
--- A store cut into pieces of z bytes: a piece has as many bytes as are asked for, what is put at the start of a piece is there, and it
--- changes no other piece and nothing past it. Two pieces do not overlap, as (j + 1) z ≤ i z for j < i.
+-- A store cut into pieces of z bytes: a cut piece has the length asked for, bytes put at the start of a piece are found there, and they
+-- change no other piece and nothing past them. Two pieces do not overlap, since (j + 1) * z ≤ i * z for j < i.
 use Prim.Native.Nat.{ℕ, zero, suc, _+_, _-_, _*_, _≤_, _<_}
 use native.Mathlib.Nat.{mul-le-mul-right, suc-mul}
 use native.Mathlib.Omega.{arith}
@@ -33,7 +33,7 @@ pub cut-length : (z : ℕ) (store : List ℕ) (i k : ℕ) → length (cut z stor
 unfolding cut
 cut-length z store i k = simp (length-take, length-append, length-replicate) (omega arith)
 
--- a piece that lies in the store
+-- a piece within the store
 pub cut-whole : (z : ℕ) (store : List ℕ) (i k : ℕ) → i * z + k ≤ length store → k ≤ z → cut z store i k ≡ take k (drop (i * z) store)
 unfolding cut
 cut-whole z store i k h l =
@@ -50,7 +50,7 @@ drop-take (suc m) (suc n) (x ∷ l) = drop-take m n l ∙ ap (λ (k : ℕ). take
 pub cut-drop : (z : ℕ) (store : List ℕ) (i k m : ℕ) → i * z + k ≤ length store → k ≤ z → drop m (cut z store i k) ≡ take (k - m) (drop (i * z + m) store)
 cut-drop z store i k m h l = rw (cut-whole z store i k h l, drop-take m k (drop (i * z) store), drop-drop)
 
--- what stands past the first k bytes of a piece
+-- the bytes past the first k of a piece
 beyond-is : (z : ℕ) (store : List ℕ) (i k : ℕ) → beyond z store i k ≡ take (z - k) (drop (i * z + k) store)
 unfolding beyond
 beyond-is z store i k = drop-take k z (drop (i * z) store) ∙ ap (take (z - k)) (drop-drop k (i * z) store)
@@ -77,7 +77,7 @@ module _ (z : ℕ) (store pkt : List ℕ) (i : ℕ) (short : length pkt ≤ z) (
   unfolding cut
   cut-other j k ne = ap (λ (l : List ℕ). take k (l ++ replicate k 0)) (piece-other j ne)
 
-  -- what stands past it in its piece, and in any other piece
+  -- the bytes past it in its own piece, and in any other piece
 
   pub beyond-same : beyond z (put store (i * z) pkt) i (length pkt) ≡ beyond z store i (length pkt)
   beyond-same =

@@ -1,5 +1,5 @@
--- How the queue is laid out: the test `formedQueue` says what the facts `QueueFormed` say, and a pushed entry, the end of a drive and
--- taken entries keep them. Only the number of state packets asks for more than arithmetic.
+-- How the queue is laid out: the test `formedQueue` is equivalent to the facts `QueueFormed`, and pushing an entry, ending a drive and
+-- taking entries keep them. Only the number of state packets needs more than arithmetic.
 use Prim.Native.Nat.{ℕ, _+_, _-_, _<_}
 use native.Mathlib.Numerals.{add-one}
 use native.Mathlib.Omega.{arith}
@@ -18,7 +18,7 @@ use Rattle.model.proofs.Gate.{and-left, and-right}
 use Rattle.records.proofs.SeenQueue.{words-append, words-rest, words-pushed, words-drive, words-take}
 
 module _ (q : Queue) (words : List ℕ) where
-  -- the two mean the same
+  -- the two are equivalent
 
   pub queue-said : QueueFormed q words → formedQueue q words ≡ true
   queue-said f =

@@ -1,4 +1,4 @@
--- `LaidReceiver` and the test `formedReceiver` mean the same: callers have tested the one, and the contracts here ask and give the other.
+-- `LaidReceiver` is equivalent to the test `formedReceiver`: callers have run the test, and contracts require and ensure the facts.
 use Prim.Native.Nat.{_+_}
 use mathlib.Core.Path.{_≡_}
 use mathlib.Core.Bool.{true}

@@ -1,4 +1,4 @@
--- What open's tests, in their order, say of `openWhy`, and what it hands out for each.
+-- What each of open's tests, in order, says about `openWhy`, and what open returns for each.
 use Prim.Native.Nat.{ℕ, _≤_, _<_, _^_}
 use mathlib.Core.Path.{_≡_, refl, ap, _∙_}
 use mathlib.Core.List.{List}

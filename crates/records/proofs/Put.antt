@@ -1,5 +1,5 @@
--- What stands in a store after some bytes were put into it: as many bytes as before, those that were put at their place, and the old
--- ones before and after it. The store is two lists joined, and a part of it lies in one of them.
+-- A store after some bytes were put into it: as many bytes as before, the new ones at their place, and the old ones before and after it.
+-- The store is two lists joined, and each part is within one of them.
 use Prim.Native.Nat.{ℕ, _+_, _-_, _≤_}
 use native.Mathlib.Omega.{arith}
 use mathlib.Core.Path.{_≡_, ap, sym, _∙_}
@@ -8,14 +8,14 @@ use lib.ListN.{length, take, drop, length-append, length-drop, take-append-drop}
 use lib.Seq.{drop-drop, length-take-le, take-at, drop-at, take-append-le, drop-append-le, drop-append-add, take-append-seam}
 use Rattle.records.specs.Put.{put}
 
--- a part that lies in the first of two lists
+-- a part within the first of two lists
 front : (x y : List ℕ) (b n : ℕ) → b + n ≤ length x → take n (drop b (x ++ y)) ≡ take n (drop b x)
 front x y b n h =
     let h₁ : b ≤ length x = omega arith in
     let h₂ : n ≤ length (drop b x) = simp length-drop (omega arith) in
     rw (drop-append-le b x y h₁, take-append-le n (drop b x) y h₂)
 
--- what is past the first of two lists
+-- everything past the first of two lists
 back : (x y : List ℕ) (b : ℕ) → length x ≤ b → drop b (x ++ y) ≡ drop (b - length x) y
 back x y b h =
     let e : b ≡ length x + (b - length x) = omega arith in
@@ -42,7 +42,7 @@ module _ (store : List ℕ) (at : ℕ) (bytes : List ℕ) (fits : at + length by
       front (take at store) (bytes ++ drop (at + length bytes) store) b n h₁ ∙ sym (front (take at store) (drop at store) b n h₁)
       ∙ ap (λ (x : List ℕ). take n (drop b x)) (take-append-drop at store)
 
-  -- what stands after it
+  -- everything after it
   pub put-drop : (b : ℕ) → at + length bytes ≤ b → drop b (put store at bytes) ≡ drop b store
   unfolding put
   put-drop b h =
@@ -61,7 +61,7 @@ module _ (store : List ℕ) (at : ℕ) (bytes : List ℕ) (fits : at + length by
       ap (take (at + length bytes)) (sym (append-assoc (take at store) bytes (drop (at + length bytes) store)))
       ∙ take-at (take at store ++ bytes) (drop (at + length bytes) store) (at + length bytes) e
 
--- bytes put next to bytes that were put
+-- bytes put right after bytes that were put
 pub put-put : (store : List ℕ) (at k : ℕ) (x y : List ℕ) → length x ≡ k → at + k + length y ≤ length store → put (put store at x) (at + k) y ≡ put store at (x ++ y)
 unfolding put
 put-put store at k x y e h =

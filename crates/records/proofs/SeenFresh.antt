@@ -1,5 +1,5 @@
--- A fresh stream is seen as the model's fresh end, whatever the words and the stores hold, and its records are laid out as they should
--- be: its windows have no numbers and its queue no words.
+-- A fresh stream is seen as the model's fresh end, whatever the words and the stores hold, and its records are properly laid out: its
+-- windows have no numbers and its queue has no words.
 use Prim.Native.Nat.{ℕ, _+_, _%_, _^_, _<_}
 use native.Mathlib.Omega.{arith}
 use mathlib.Core.Path.{_≡_, refl}

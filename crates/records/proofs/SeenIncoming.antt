@@ -1,5 +1,5 @@
--- The incoming store as it is seen: what `get` finds in it, and what a packet that is held, a read offset that moves and a packet that
--- is finished are to it. Instances of the laws of SeenSlots, for the words and the store of held packets.
+-- What is seen of the incoming store: what `get` finds in it, and how holding a packet, moving a read offset and finishing a packet change
+-- it. Instances of the laws of SeenSlots, for the words and the store of held packets.
 use Prim.Native.Nat.{ℕ, zero, suc, _+_, _-_, _*_, _%_, _≤_, _<_}
 use native.Mathlib.Omega.{arith}
 use mathlib.Core.Path.{_≡_, refl, ap, _∙_}
@@ -25,7 +25,7 @@ use Rattle.records.proofs.SeenSlots.{Cell, shown, shown-in, shown-below
 abbrev pub heldIn : List ℕ → ℕ → Held
 heldIn words i = heldOf (getD words i 0)
 
--- the words after packet p was put into the slot of number n
+-- the words after putting packet p into the slot of number n
 abbrev pub withHeld : List ℕ → ℕ → Held → List ℕ
 withHeld words n p = set words (n % ceiling) (heldWord p)
 
@@ -33,7 +33,7 @@ withHeld words n p = set words (n % ceiling) (heldWord p)
 abbrev pub heldAt : List ℕ → Bytes → ℕ → Option model.Held
 heldAt words store n = let p = heldIn words (n % ceiling) in cond (isHeld p n) (some (heldPayload store (n % ceiling) p)) none
 
--- what stands in slot i
+-- the contents of slot i
 
 abbrev cellOf : Bytes → ℕ → Held → Cell model.Held
 cellOf store i p = record { there = not (eqb (p .past) 0); number = p .number; value = heldPayload store i p }
@@ -64,12 +64,12 @@ module _ (readCursor top : ℕ) (words : List ℕ) (store : Bytes) where
   unfolding seenIncoming
   finish-incoming u width = slots-settle readCursor top (cells words store) u width
 
--- a store without numbers is empty, whatever words and bytes there are
+-- an empty window holds no packet, whatever the words and bytes
 pub none-held : (n : ℕ) (words : List ℕ) (store : Bytes) → seenIncoming n n words store ≡ noSlots
 unfolding seenIncoming
 none-held n words store = slots-none n (cells words store)
 
--- nothing changes
+-- changes that are not seen
 
 -- the same packets under the numbers from the read cursor to below top
 pub same-incoming : (readCursor top : ℕ) (words words′ : List ℕ) (store store′ : Bytes)
@@ -80,7 +80,7 @@ same-incoming readCursor top words words′ store store′ h =
     slots-same readCursor top readCursor top (cells words store) (cells words′ store′)
     (λ n. shown-same readCursor top (cells words store (n % ceiling)) (cells words′ store′ (n % ceiling)) n (h n))
 
--- bytes that are of no held packet do not matter
+-- bytes that belong to no held packet do not matter
 pub same-payloads : (readCursor top : ℕ) (words : List ℕ) (store store′ : Bytes)
     → ((n : ℕ) → readCursor ≤ n → n < top → isHeld (heldIn words (n % ceiling)) n ≡ true
     → cut incomingSlot store (n % ceiling) (heldIn words (n % ceiling) .past - 1) ≡ cut incomingSlot store′ (n % ceiling) (heldIn words (n % ceiling) .past - 1))
@@ -92,7 +92,7 @@ same-payloads readCursor top words store store′ h = same-incoming readCursor t
     go n l u true e = ap (λ (x : Bytes). some (record { payload = x; offset = heldIn words (n % ceiling) .offset })) (h n l u e)
     go n l u false e = refl
 
--- words that say the same packets
+-- words that decode to the same packets
 pub same-held : (readCursor top : ℕ) (words words′ : List ℕ) (store : Bytes)
     → ((n : ℕ) → readCursor ≤ n → n < top → heldIn words (n % ceiling) ≡ heldIn words′ (n % ceiling))
     → seenIncoming readCursor top words store ≡ seenIncoming readCursor top words′ store
@@ -102,7 +102,7 @@ same-held readCursor top words words′ store h =
 
 -- numbers between top and a new top, whose words are no packets
 
--- the words with those of k numbers from n on cleared
+-- the words after clearing those of the k numbers from n on
 abbrev pub cleared : (k n : ℕ) → List ℕ → List ℕ
 cleared zero n words = words
 cleared (suc k) n words = cleared k (suc n) (set words (n % ceiling) 0)
@@ -159,7 +159,7 @@ module _ (readCursor : ℕ) (words : List ℕ) (long : length words ≡ 32) (n :
       (λ m ne. ap (λ (c : Cell model.Held). shown readCursor top c m) (cell-other store (m % ceiling) ne))
 
   module _ (store payload : Bytes) (size : length store ≡ 44_160) (short : length payload ≤ 1_380) (same : p .past ≡ suc (length payload)) where
-    -- with any new top above n that shows every other number as the old one does
+    -- for any new top above n that shows every other number as the old top does
     hold : (top top′ : ℕ) → n < top′ → ((c : Cell model.Held) (m : ℕ) → m ≢ n → shown readCursor top′ c m ≡ shown readCursor top c m)
         → seenIncoming readCursor top′ (withHeld words n p) (put store (n % ceiling * 1_380) payload)
         ≡ insert (seenIncoming readCursor top words store) n (record { payload = payload; offset = p .offset })
@@ -192,12 +192,12 @@ module _ (readCursor : ℕ) (words : List ℕ) (long : length words ≡ 32) (n :
         ≡ insert (seenIncoming readCursor top words store) n (record { payload = payload; offset = p .offset })
     hold-incoming top high = hold top top high (λ c m ne. refl)
 
-    -- the number top, which moves past it
+    -- the number top itself: top moves past it
     pub hold-next : seenIncoming readCursor (suc n) (withHeld words n p) (put store (n % ceiling * 1_380) payload)
         ≡ insert (seenIncoming readCursor n words store) n (record { payload = payload; offset = p .offset })
     hold-next = hold n (suc n) (omega arith) (λ c m ne. shown-high readCursor n c m ne)
 
--- a number at or past top, which moves past it; the words of the numbers between are cleared first
+-- a number at or past top: top moves past it, after the words of the numbers between are cleared
 pub hold-past : (readCursor top : ℕ) (words : List ℕ) (long : length words ≡ 32) (n : ℕ) (p : Held) → p .number ≡ n → p .past ≢ 0 → heldOf (heldWord p) ≡ p
     → readCursor ≤ n → top ≤ n → n < readCursor + ceiling
     → (store payload : Bytes) → length store ≡ 44_160 → length payload ≤ 1_380 → p .past ≡ suc (length payload)

@@ -1,5 +1,5 @@
--- The outgoing store as it is seen: what `get` finds in it, and what a new packet, other marks, a packet that leaves and a settled
--- number are to it. Instances of the laws of SeenSlots, for the words and the store of stored packets.
+-- What is seen of the outgoing store: what `get` finds in it, and how a new packet, new marks, a packet that leaves and a settled number
+-- change it. Instances of the laws of SeenSlots, for the words and the store of stored packets.
 use Prim.Native.Nat.{ℕ, suc, _+_, _*_, _%_, _≤_, _<_}
 use native.Mathlib.Omega.{arith}
 use mathlib.Core.Path.{_≡_, refl, ap, ap₂, _∙_}
@@ -27,7 +27,7 @@ use Rattle.records.proofs.SeenSlots.{Cell, shown, shown-in, shown-below
 abbrev pub storedAt : List ℕ → Bytes → ℕ → Option model.Packet
 storedAt words store n = let p = sentIn words (n % ceiling) in cond (isStored p n) (some (packetOf store (n % ceiling) p)) none
 
--- what stands in slot i
+-- the contents of slot i
 
 abbrev cellOf : Bytes → ℕ → Sent → Cell model.Packet
 cellOf store i p = record { there = not (eqb (p .length) 0); number = p .number; value = packetOf store i p }
@@ -52,12 +52,12 @@ module _ (remoteAcked seq : ℕ) (words : List ℕ) (store : Bytes) where
   unfolding seenOutgoing
   get-unsent n u = slots-get remoteAcked seq (cells words store) n ∙ shown-above remoteAcked seq (cells words store (n % ceiling)) n u
 
--- a store without numbers is empty, whatever words and bytes there are
+-- an empty window holds no packet, whatever the words and bytes
 pub none-stored : (n : ℕ) (words : List ℕ) (store : Bytes) → seenOutgoing n n words store ≡ noSlots
 unfolding seenOutgoing
 none-stored n words store = slots-none n (cells words store)
 
--- nothing changes
+-- changes that are not seen
 
 -- the same packets under the numbers from remote acked to below seq
 pub same-outgoing : (remoteAcked seq : ℕ) (words words′ : List ℕ) (store store′ : Bytes)
@@ -68,7 +68,7 @@ same-outgoing remoteAcked seq words words′ store store′ h =
     slots-same remoteAcked seq remoteAcked seq (cells words store) (cells words′ store′)
     (λ n. shown-same remoteAcked seq (cells words store (n % ceiling)) (cells words′ store′ (n % ceiling)) n (h n))
 
--- bytes that are of no stored packet do not matter
+-- bytes that belong to no stored packet do not matter
 pub same-bytes : (remoteAcked seq : ℕ) (words : List ℕ) (store store′ : Bytes)
     → ((n : ℕ) → remoteAcked ≤ n → n < seq → isStored (sentIn words (n % ceiling)) n ≡ true
     → cut outgoingSlot store (n % ceiling) (sentIn words (n % ceiling) .length) ≡ cut outgoingSlot store′ (n % ceiling) (sentIn words (n % ceiling) .length))
@@ -80,7 +80,7 @@ same-bytes remoteAcked seq words store store′ h = same-outgoing remoteAcked se
     go n l u true e = ap (λ (x : Bytes). some (record { bytes = x; marks = marksOf (sentIn words (n % ceiling)) })) (h n l u e)
     go n l u false e = refl
 
--- words that say the same packets
+-- words that decode to the same packets
 pub same-sent : (remoteAcked seq : ℕ) (words words′ : List ℕ) (store : Bytes)
     → ((n : ℕ) → remoteAcked ≤ n → n < seq → sentIn words (n % ceiling) ≡ sentIn words′ (n % ceiling))
     → seenOutgoing remoteAcked seq words store ≡ seenOutgoing remoteAcked seq words′ store
@@ -119,7 +119,7 @@ module _ (remoteAcked : ℕ) (words : List ℕ) (long : length words ≡ 64) (n 
   cell-other : (store : Bytes) (i : ℕ) → i < ceiling → i ≢ n % ceiling → cells (withSent words n p) store i ≡ cells words store i
   cell-other store i l ne = ap (cellOf store i) (sent-other words long n p i l ne)
 
-  -- other marks
+  -- new marks
   pub mark-outgoing : (seq : ℕ) (store : Bytes) → n < seq
       → seenOutgoing remoteAcked seq (withSent words n p) store
       ≡ insert (seenOutgoing remoteAcked seq words store) n (packetOf store (n % ceiling) p)
@@ -129,7 +129,7 @@ module _ (remoteAcked : ℕ) (words : List ℕ) (long : length words ≡ 64) (n 
       (cell-put store (cut outgoingSlot store (n % ceiling) (p .length)) refl)
       (λ m ne. ap (λ (c : Cell model.Packet). shown remoteAcked seq c m) (cell-other store (m % ceiling) (omega arith) ne))
 
-  -- the marks of the packet that is stored, changed by f
+  -- the stored packet's marks, changed by f
   pub remark-outgoing : (seq : ℕ) (store : Bytes) (f : model.Marks → model.Marks) → n < seq → p .length ≡ sentIn words (n % ceiling) .length
       → marksOf p ≡ f (marksOf (sentIn words (n % ceiling)))
       → seenOutgoing remoteAcked seq (withSent words n p) store
@@ -138,7 +138,7 @@ module _ (remoteAcked : ℕ) (words : List ℕ) (long : length words ≡ 64) (n 
       mark-outgoing seq store high
       ∙ ap₂ (λ (k : ℕ) (m : model.Marks). insert (seenOutgoing remoteAcked seq words store) n (record { bytes = cut outgoingSlot store (n % ceiling) k; marks = m })) same marks
 
-  -- a new packet, the next one
+  -- a new packet, numbered seq
   pub write-outgoing : (store pkt : Bytes) → length store ≡ 44_800 → length pkt ≤ 1_400 → p .length ≡ length pkt
       → seenOutgoing remoteAcked (suc n) (withSent words n p) (put store (n % ceiling * 1_400) pkt)
       ≡ insert (seenOutgoing remoteAcked n words store) n (record { bytes = pkt; marks = marksOf p })
@@ -168,7 +168,7 @@ module _ (remoteAcked : ℕ) (words : List ℕ) (long : length words ≡ 64) (n 
 -- a packet leaves
 
 module _ (remoteAcked seq : ℕ) (words : List ℕ) (store : Bytes) (width : seq ≤ remoteAcked + ceiling) where
-  -- the word of a number is no packet any more
+  -- the word of a number is cleared
   pub drop-outgoing : (n : ℕ) → length words ≡ 64 → remoteAcked ≤ n → n < seq
       → seenOutgoing remoteAcked seq (set words (n % ceiling) 0) store ≡ remove (seenOutgoing remoteAcked seq words store) n
   unfolding seenOutgoing sentOf
@@ -182,7 +182,7 @@ module _ (remoteAcked seq : ℕ) (words : List ℕ) (store : Bytes) (width : seq
   unfolding seenOutgoing
   settle-outgoing u = slots-settle remoteAcked seq (cells words store) u width
 
-  -- a number that is not stored, and its word
+  -- removing a number that is not stored changes nothing
   pub absent-outgoing : (n : ℕ) → remoteAcked ≤ n → n < seq → isStored (sentIn words (n % ceiling)) n ≡ false
       → remove (seenOutgoing remoteAcked seq words store) n ≡ seenOutgoing remoteAcked seq words store
   absent-outgoing n l u e = remove-absent (seenOutgoing remoteAcked seq words store) n (get-outgoing remoteAcked seq words store n l u ∙ rw e refl)

@@ -1,5 +1,5 @@
--- The send queue as it is seen: how many entries and state packets it has, and what a pushed entry, the end of a drive and taken
--- entries are to it. By induction on the words; the bytes of the queued state packets lie below the place of the next one.
+-- What is seen of the send queue: how many entries and state packets it has, and how pushing an entry, ending a drive and taking entries
+-- change it. By induction on the words; the bytes of the queued state packets are below the place of the next one.
 use Prim.Native.Nat.{ℕ, suc, _+_, _-_, _*_, _≤_, _<_}
 use native.Mathlib.Numerals.{add-one}
 use native.Mathlib.Omega.{arith}
@@ -33,7 +33,7 @@ entries-length headers place (w ∷ ws) = go (entryOf w .state) refl (entries-le
     go true e p q = rw e (ap suc q)
     go false e p q = rw e (ap suc p)
 
--- bytes and places do not change how many are state packets
+-- the number of state packets does not depend on bytes or places
 states-same : (h h′ : Bytes) (i j : ℕ) (words : List ℕ) → states (seenEntries h i words) ≡ states (seenEntries h′ j words)
 states-same h h′ i j [] = refl
 states-same h h′ i j (w ∷ ws) = go (entryOf w .state) refl (states-same h h′ i j ws) (states-same h h′ (suc i) (suc j) ws)
@@ -79,7 +79,7 @@ words-append words more =
     ap states (entries-append [] 0 words more) ∙ states-append (seenEntries [] 0 words) (seenEntries [] (0 + stateWords words) more)
     ∙ ap (λ (k : ℕ). stateWords words + k) (entries-states [] (0 + stateWords words) more)
 
--- the bytes of the state packets alone matter
+-- only the bytes of the state packets matter
 pub entries-same : (h h′ : Bytes) (place : ℕ) (words : List ℕ)
     → ((i : ℕ) → place ≤ i → i < place + stateWords words → cut headerSlot h i 20 ≡ cut headerSlot h′ i 20) → seenEntries h place words ≡ seenEntries h′ place words
 entries-same h h′ place [] f = refl
@@ -96,7 +96,7 @@ entries-same h h′ place (w ∷ ws) f = go (entryOf w .state) refl (entries-sam
         let n = packet-first w ws e in
         rw e (ap (λ (l : List model.Entry). model.packet (entryOf w .number) (entryOf w .length) ∷ l) (p (λ j a b. f j a (omega arith))))
 
--- some entries off the front
+-- splitting entries off the front
 
 module _ (headers : Bytes) (place k : ℕ) (words : List ℕ) (l : k ≤ length words) where
   split : seenEntries headers place words ≡ seenEntries headers place (take k words) ++ seenEntries headers (place + stateWords (take k words)) (drop k words)
@@ -126,7 +126,7 @@ module _ (words : List ℕ) (count : ℕ) (room : count < length words) (x : Ent
       rw (add-one, take-suc-set words count (entryWord x) room) (entries-append headers place (take count words) (entryWord x ∷ [])
       ∙ ap (λ (l : List model.Entry). seenEntries headers place (take count words) ++ l) (entry-packet headers (place + stateWords (take count words)) (entryWord x) x back e))
 
-  -- a state packet, its bytes at the place after those of the others
+  -- a state packet, its bytes at the place after the others
   pub push-state : (headers bytes : Bytes) (place next : ℕ) → x .state ≡ true → next ≡ place + stateWords (take count words) → length bytes ≡ 20 → next * 20 + 20 ≤ length headers
       → seenEntries (put headers (next * 20) bytes) place (take (count + 1) (set words count (entryWord x)))
       ≡ seenEntries headers place (take count words) ++ (model.state bytes ∷ [])
@@ -155,7 +155,7 @@ pub words-rest : (q : Queue) (words : List ℕ) → q .left ≡ 0 → entryWords
 unfolding entryWords
 words-rest q words e = rw e refl
 
--- the last ones else
+-- otherwise the last `left` of them
 pub words-left : (q : Queue) (words : List ℕ) → 0 < q .left → entryWords q words ≡ drop (q .count - q .left) (take (q .count) words)
 unfolding entryWords
 words-left q words h = rw (ne-eqb (q .left) 0 (λ e. omega arith)) refl

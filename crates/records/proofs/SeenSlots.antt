@@ -1,6 +1,6 @@
--- The slots of either store, seen through a window of numbers: slot i shows its cell where the cell's number is of the window and of
--- that slot. What `get` finds there, and when a change of cells or window is an `insert`, a `remove` or no change; once, for any cell.
--- Two slots are equal where every number has the same value in both.
+-- The slots of either store, seen through a window of numbers: slot i shows its cell if the cell's number is in the window and belongs to
+-- that slot. What `get` finds there, and when a change of cells or window is an `insert`, a `remove` or no change; proved once, for any
+-- cell. Two slots are equal if every number has the same value in both.
 use Prim.Native.Nat.{ℕ, suc, _+_, _%_, _≤_, _<_}
 use native.Mathlib.Omega.{arith}
 use mathlib.Core.Path.{_≡_, refl, ap, ap₂, sym, _∙_}
@@ -18,7 +18,7 @@ use Rattle.records.specs.Table.{table}
 use Rattle.records.specs.Seen.{numbered, inSlot}
 use Rattle.records.proofs.Table.{table-length, table-get, table-same, table-set, table-replicate}
 
--- what a word says: a packet or not, its number, its value
+-- a decoded word: whether it is a packet, its number, its value
 pub record Cell (A : Type 0) : Type 0 where
   pub there : Bool
   pub number : ℕ
@@ -32,11 +32,11 @@ module _ {A : Type 0} where
   abbrev pub slots : (low high : ℕ) → (ℕ → Cell A) → Slots A
   slots low high cells = table ceiling (λ i. slotOf low high (cells i) i)
 
-  -- a cell's value as number n's
+  -- the cell's value, if its number is n
   abbrev pub cellAt : Cell A → ℕ → Option A
   cellAt c n = cond (c .there && eqb (c .number) n) (some (c .value)) none
 
-  -- number n's value, where n is of the window
+  -- number n's value, if n is in the window
   abbrev pub shown : (low high : ℕ) → Cell A → ℕ → Option A
   shown low high c n = cond (leb low n && ltb n high) (cellAt c n) none
 
@@ -84,7 +84,7 @@ module _ {A : Type 0} where
   unfolding one
   same p q = ap₂ one p q
 
-  -- what has the same values is the same
+  -- slots with the same values are equal
   slot-ext : (o p : Option (Numbered A)) → ((n : ℕ) → valueOf n o ≡ valueOf n p) → o ≡ p
   slot-ext none none h = refl
   slot-ext none (some y) h = absurd (no-some refl (h (y .number) ∙ self y))
@@ -111,7 +111,7 @@ module _ {A : Type 0} where
       by n true e = h n (eqb-true (n % ceiling) i e)
       by n false e = refl
 
-  -- a number that is not of the window
+  -- a number outside the window
   pub shown-below : (low high : ℕ) (c : Cell A) (n : ℕ) → n < low → shown low high c n ≡ none
   shown-below low high c n h = rw (lt-leb low n h) refl
 
@@ -130,11 +130,11 @@ module _ {A : Type 0} where
       go true = refl
       go false = refl
 
-  -- a number of the window
+  -- a number in the window
   pub shown-in : (low high : ℕ) (c : Cell A) (n : ℕ) → low ≤ n → n < high → shown low high c n ≡ cellAt c n
   shown-in low high c n l u = rw (le-leb low n l, lt-ltb n high u) refl
 
-  -- cells that have the same value as number n, where n is of the window
+  -- cells with the same value for number n, if n is in the window
   pub shown-same : (low high : ℕ) (c d : Cell A) (n : ℕ) → (low ≤ n → n < high → cellAt c n ≡ cellAt d n) → shown low high c n ≡ shown low high d n
   shown-same low high c d n h = go (leb low n) refl (ltb n high) refl
     where
@@ -143,7 +143,7 @@ module _ {A : Type 0} where
       go true p false q = refl
       go false p b q = refl
 
-  -- a window without its lowest number, or with one more, for any other number
+  -- dropping the window's lowest number, or adding the next one, changes no other number
   shown-low : (low high : ℕ) (c : Cell A) (n : ℕ) → n ≢ low → shown (suc low) high c n ≡ shown low high c n
   shown-low low high c n ne = ap (λ (b : Bool). cond (b && ltb n high) (cellAt c n) none) (go (leb low n) refl)
     where
@@ -172,7 +172,7 @@ module _ {A : Type 0} where
       ap (valueOf n) (slots-at low high cells n) ∙ slot-value low high (cells (n % ceiling)) (n % ceiling) n
       ∙ ap (λ (b : Bool). cond b (shown low high (cells (n % ceiling)) n) none) (eq-eqb (n % ceiling) (n % ceiling) refl)
 
-  -- a window without numbers
+  -- an empty window
   pub slots-none : (n : ℕ) (cells : ℕ → Cell A) → slots n n cells ≡ noSlots
   unfolding noSlots
   slots-none n cells = table-replicate ceiling (λ i. slotOf n n (cells i) i) none (λ i l. slot-none n n (cells i) i (λ m e. go m (cells i) (ltb m n) refl))
@@ -181,14 +181,14 @@ module _ {A : Type 0} where
       go m c true q = shown-below n n c m (ltb-true m n q)
       go m c false q = shown-above n n c m (ltb-false m n q)
 
-  -- the window's numbers have the same values
+  -- every number shows the same value
   pub slots-same : (low high low′ high′ : ℕ) (cells cells′ : ℕ → Cell A)
       → ((n : ℕ) → shown low high (cells (n % ceiling)) n ≡ shown low′ high′ (cells′ (n % ceiling)) n) → slots low high cells ≡ slots low′ high′ cells′
   slots-same low high low′ high′ cells cells′ h =
       table-same ceiling (λ i. slotOf low high (cells i) i) (λ i. slotOf low′ high′ (cells′ i) i)
       (λ i l. slot-same low high low′ high′ (cells i) (cells′ i) i (λ n e. rw e at (h n)))
 
-  -- the numbers of all slots but that of n have the same values
+  -- every number outside the slot of n shows the same value
   slots-set : (low high low′ high′ : ℕ) (cells cells′ : ℕ → Cell A) (n : ℕ)
       → ((m : ℕ) → m % ceiling ≢ n % ceiling → shown low high (cells (m % ceiling)) m ≡ shown low′ high′ (cells′ (m % ceiling)) m)
       → slots low high cells ≡ set (slots low′ high′ cells′) (n % ceiling) (slotOf low high (cells (n % ceiling)) (n % ceiling))
@@ -196,7 +196,7 @@ module _ {A : Type 0} where
       table-set ceiling (λ i. slotOf low high (cells i) i) (λ i. slotOf low′ high′ (cells′ i) i) (n % ceiling) (omega arith)
       (λ i l ne. slot-same low high low′ high′ (cells i) (cells′ i) i (λ m e. rw e at (h m (λ q. ne (sym e ∙ q)))))
 
-  -- number n of the window gets a value
+  -- number n in the window gets a value
   pub slots-insert : (low high high′ : ℕ) (cells cells′ : ℕ → Cell A) (n : ℕ) (v : A) → low ≤ n → n < high
       → cells (n % ceiling) ≡ record { there = true; number = n; value = v }
       → ((m : ℕ) → m % ceiling ≢ n % ceiling → shown low high (cells (m % ceiling)) m ≡ shown low high′ (cells′ (m % ceiling)) m)
@@ -207,7 +207,7 @@ module _ {A : Type 0} where
       ∙ ap (set (slots low high′ cells′) (n % ceiling))
       (rw (e, le-leb low n l, lt-ltb n high u, eq-eqb (n % ceiling) (n % ceiling) refl, eq-eqb n n refl) refl)
 
-  -- number n of the window has no value any more
+  -- number n in the window loses its value
   slots-remove : (low high low′ high′ : ℕ) (cells cells′ : ℕ → Cell A) (n : ℕ) → low′ ≤ n → n < high′ → high′ ≤ low′ + ceiling
       → ((m : ℕ) → m % ceiling ≡ n % ceiling → shown low high (cells (m % ceiling)) m ≡ none)
       → ((m : ℕ) → m % ceiling ≢ n % ceiling → shown low high (cells (m % ceiling)) m ≡ shown low′ high′ (cells′ (m % ceiling)) m)
@@ -239,7 +239,7 @@ module _ {A : Type 0} where
           ∙ set-getD s (n % ceiling) none
       go (some v) z = refl
 
-  -- the cell of number n of the window is no packet any more
+  -- the cell of number n in the window is cleared
   pub slots-drop : (low high : ℕ) (cells cells′ : ℕ → Cell A) (n : ℕ) → low ≤ n → n < high → high ≤ low + ceiling
       → cells (n % ceiling) .there ≡ false → ((i : ℕ) → i < ceiling → i ≢ n % ceiling → cells i ≡ cells′ i)
       → slots low high cells ≡ remove (slots low high cells′) n
@@ -257,7 +257,7 @@ module _ {A : Type 0} where
       gone m e true q = let h = ltb-true m high q in shown-below (suc low) high (cells (m % ceiling)) m (omega arith)
       gone m e false q = shown-above (suc low) high (cells (m % ceiling)) m (ltb-false m high q)
 
-  -- the window takes in one more number, whose cell is no packet
+  -- the window gains a number whose cell is no packet
   pub slots-clear : (low high : ℕ) (cells cells′ : ℕ → Cell A) → high < low + ceiling → cells (high % ceiling) .there ≡ false
       → ((i : ℕ) → i < ceiling → i ≢ high % ceiling → cells i ≡ cells′ i) → slots low (suc high) cells ≡ slots low high cells′
   slots-clear low high cells cells′ w e h = slots-same low (suc high) low high cells cells′ (λ m. go m (eqb (m % ceiling) (high % ceiling)) refl)

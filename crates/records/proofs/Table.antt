@@ -1,5 +1,5 @@
--- The laws of `table`: its length, its elements, and when two tables are the same, or a table is another with one element set. Each is
--- an induction on how many elements there are.
+-- The laws of `table`: its length, its elements, and when two tables are the same, or differ in one element. Each is by induction on the
+-- number of elements.
 use Prim.Native.Nat.{ℕ, zero, suc, _<_}
 use native.Mathlib.Omega.{arith}
 use mathlib.Core.Path.{_≡_, refl, ap, ap₂}

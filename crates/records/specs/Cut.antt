@@ -3,8 +3,8 @@ use Prim.Native.Nat.{ℕ, _*_}
 use mathlib.Core.List.{List, _++_}
 use lib.ListN.{take, drop, replicate}
 
--- the first k bytes of piece i of a store whose pieces have z bytes; filled up with zeros where the piece is shorter, so that it has k
--- bytes always and a rule about lengths means the same of the records and of what is seen of them
+-- the first k bytes of piece i of a store whose pieces have z bytes, padded with zeros where the piece is shorter: it always has k bytes,
+-- so a rule about lengths means the same for the records and for what is seen of them
 unfoldable pub cut : (z : ℕ) → List ℕ → (i k : ℕ) → List ℕ
 cut z store i k = take k (take z (drop (i * z) store) ++ replicate k 0)
 
@@ -12,8 +12,8 @@ cut z store i k = take k (take z (drop (i * z) store) ++ replicate k 0)
 unfoldable pub beyond : (z : ℕ) → List ℕ → (i k : ℕ) → List ℕ
 beyond z store i k = drop k (take z (drop (i * z) store))
 
--- 01, 'Records': the pieces of the three stores. Shut, so that no proof counts 1,400 bytes; `out-is`, `in-is`, `head-is` in
--- proofs/Cut.antt say how many they are.
+-- 01, 'Records': the piece sizes of the three stores. Opaque, so that no proof counts 1,400 bytes; `out-is`, `in-is`, `head-is` in
+-- proofs/Cut.antt give the values.
 unfoldable pub outgoingSlot : ℕ
 outgoingSlot = 1_400
 

@@ -1,4 +1,4 @@
--- How the receiver's numbers are laid out, as facts: `formedReceiver`, whose test means the same (proofs/LaidLaws.antt).
+-- How the receiver's numbers are laid out, as facts; equivalent to the test `formedReceiver` (proofs/LaidLaws.antt).
 use Prim.Native.Nat.{_+_, _≤_}
 use Rattle.model.specs.Slots.{ceiling}
 use Rattle.records.specs.declared.Receiver.{Receiver}

@@ -1,4 +1,4 @@
--- What opening answers and hands out.
+-- What open returns: its outcome, the stream and the totals.
 use Prim.Native.Nat.{ℕ, _+_, _%_, _^_}
 use mathlib.Core.Path.{_≡_}
 use mathlib.Core.List.{List, _∷_}
@@ -52,7 +52,7 @@ unfoldable pub openWhy : (segments clock : ℕ) (outgoing incoming headers : Lis
 openWhy segments clock outgoing incoming headers =
     first (record { holds = storesTest outgoing incoming headers; refusal = BrokenRecords } ∷ openTests segments clock)
 
--- a refused open hands out a stream that every call refuses: its segment ceiling is 0
+-- a refused open returns a stream that every call refuses: its segment ceiling is 0
 abbrev pub openedStream : Option Refusal → Stream → Stream
 openedStream none s = s
 openedStream (some why) s = freshStream 0 0 0 0

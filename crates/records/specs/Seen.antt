@@ -1,5 +1,5 @@
--- What the records and the lent words and stores mean: the end of the model that they are (`seen`), and the rules that they keep
--- beside 01's because of how they are laid out (`formed`).
+-- What the records and the lent words and stores mean: the model's end that they represent (`seen`), and the rules beyond 01's that come
+-- from how they are laid out (`formed`).
 use Prim.Native.Nat.{ℕ, suc, _+_, _-_, _%_, _≤_}
 use mathlib.Core.Path.{_≡_}
 use mathlib.Core.List.{List, [], _∷_}
@@ -25,11 +25,11 @@ use Rattle.records_words.specs.Words.{sentIn, sentWord, sentTime, isStored, hel
 use Rattle.records.specs.Table.{table}
 use Rattle.records.specs.Cut.{cut, outgoingSlot, incomingSlot, headerSlot}
 
--- a value under its number, where it is there
+-- a value with its number, if it is there
 abbrev pub numbered : {A : Type 0} → Bool → ℕ → A → Option (Numbered A)
 numbered there n v = cond there (some (record { number = n; value = v })) none
 
--- stored packets: number n is stored where it is from remote acked to below seq and its slot's word is packet n
+-- stored packets: number n is stored if it is from remote acked to below seq and its slot's word is packet n
 
 abbrev pub marksOf : Sent → model.Marks
 marksOf p = record { waiting = p .waiting; transmits = p .transmits; sent = cond (p .timed) (some (p .«sent_at» .0)) none }
@@ -37,7 +37,7 @@ marksOf p = record { waiting = p .waiting; transmits = p .transmits; sent = cond
 abbrev pub packetOf : Bytes → ℕ → Sent → model.Packet
 packetOf store i p = record { bytes = cut outgoingSlot store i (p .length); marks = marksOf p }
 
--- the words after packet p was put into the slot of number n
+-- the words after putting packet p into the slot of number n
 abbrev pub withSent : List ℕ → ℕ → Sent → List ℕ
 withSent words n p = set (set words (n % ceiling) (sentWord p)) (32 + n % ceiling) (sentTime p)
 
@@ -52,7 +52,7 @@ outgoingSlotAt remoteAcked seq words store i =
 unfoldable pub seenOutgoing : (remoteAcked seq : ℕ) → List ℕ → Bytes → Slots model.Packet
 seenOutgoing remoteAcked seq words store = table ceiling (outgoingSlotAt remoteAcked seq words store)
 
--- held packets: number n is held where it is from the read cursor to below top and its slot's word is packet n
+-- held packets: number n is held if it is from the read cursor to below top and its slot's word is packet n
 
 abbrev pub heldPayload : Bytes → ℕ → Held → model.Held
 heldPayload store i p = record { payload = cut incomingSlot store i (p .past - 1); offset = p .offset }
@@ -73,14 +73,14 @@ firstEntry q = cond (eqb (q .left) 0) 0 (q .count - q .left)
 unfoldable pub entryWords : Queue → List ℕ → List ℕ
 entryWords q words = drop (firstEntry q) (take (q .count) words)
 
--- the entries of some words, the first state packet's place being `place`
+-- the entries of some words; `place` is the first state packet's place
 abbrev pub seenEntries : Bytes → ℕ → List ℕ → List model.Entry
 seenEntries headers place [] = []
 seenEntries headers place (w ∷ ws) =
     cond (entryOf w .state) (model.state (cut headerSlot headers place 20) ∷ seenEntries headers (suc place) ws)
     (model.packet (entryOf w .number) (entryOf w .length) ∷ seenEntries headers place ws)
 
--- the state packets among some words
+-- the number of state packets among some words
 abbrev pub stateWords : List ℕ → ℕ
 stateWords words = states (seenEntries [] 0 words)
 
@@ -149,7 +149,7 @@ seen s t l =
 abbrev pub formedReceiver : Receiver → Bool
 formedReceiver r = leb (r .«read_cursor») (r .top) && leb (r .top) (r .«read_cursor» + ceiling)
 
--- the entries fit the words, the state packets the header store, and the two counts of state packets are those of the entries
+-- the entries fit the words, the state packets fit the header store, and the two counts of state packets match the entries
 abbrev pub formedQueue : Queue → List ℕ → Bool
 formedQueue q words =
     leb (q .count) 128
@@ -157,7 +157,7 @@ formedQueue q words =
     && (leb (q .states) 64
     && (eqb (q .states) (q .gone + stateWords (entryWords q words)) && (ltb 0 (q .left) || eqb (q .gone) 0))))
 
--- the same as facts
+-- `formedQueue` as facts
 pub record QueueFormed (q : Queue) (words : List ℕ) : Type 0 where
   pub count : q .count ≤ 128
   pub left : q .left ≤ q .count

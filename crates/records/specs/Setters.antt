@@ -1,11 +1,11 @@
--- A stream, and what is lent to its calls, with one part changed.
+-- A stream, or what is lent to its calls, with one part replaced.
 use Prim.Native.Nat.{ℕ}
 use mathlib.Core.List.{List}
 use Rattle.records.specs.declared.Queue.{Queue}
 use Rattle.records.specs.declared.Stream.{Stream}
 use Rattle.records.specs.Seen.{Lent}
 
--- another queue
+-- with another queue
 abbrev pub withQueue : Queue → Stream → Stream
 withQueue q s =
     record {
@@ -18,6 +18,6 @@ withQueue q s =
       clocks = s .clocks;
     }
 
--- other words of the stored packets
+-- with other words for the stored packets
 abbrev pub withWords : List ℕ → Lent → Lent
 withWords sent l = record { sent = sent; held = l .held; queue = l .queue; outgoing = l .outgoing; incoming = l .incoming; headers = l .headers }

@@ -1,4 +1,4 @@
--- A list made by a function of the place.
+-- A list built from a function of the index.
 use Prim.Native.Nat.{ℕ, zero, suc}
 use mathlib.Core.List.{List, [], _∷_}
 

@@ -1,5 +1,5 @@
-// The records of a stream: its numbers by value, in the groups of the model; its packets and its queue as words of lent arrays; the
-// bytes in three lent stores. specs/Seen.antt says what they mean.
+// The records of a stream: its numbers by value, grouped as in the model; its packets and its queue as words of lent arrays; the bytes in
+// three lent stores. specs/Seen.antt defines what they mean.
 mod errors;
 pub mod open;
 
@@ -31,7 +31,7 @@ use rtt::Rtt;
 pub struct Ids {
     pub local: u32,
     pub remote: u32,
-    // The segment ceiling: most entries of a batch, 1 to 10.
+    // The segment ceiling: the most entries in a batch, 1 to 10.
     pub segments: u8,
 }
 
@@ -42,7 +42,7 @@ pub struct Sender {
     pub remote_acked: u32,
     // The largest ack delivered since the last drive, at most seq.
     pub largest_ack: u32,
-    // Bytes of the stored packets that do not wait.
+    // Bytes of the stored packets that are not waiting.
     pub inflight: u32,
     // The congestion window, 1,400 or more.
     pub cwnd: u32,
@@ -57,18 +57,18 @@ pub struct Receiver {
     pub top: u32,
 }
 
-// The words 0 to below count are the queue; while entries are left to take, only the last `left` of them. Nothing is pushed while some
-// are left, and with the last one taken the queue is empty again, so it needs no ring.
+// The queue is the words below `count`, or only the last `left` of them while entries are left to take. Nothing is pushed while some are
+// left, and taking the last one empties the queue, so it needs no ring.
 pub struct Queue {
     pub count: u32,
     pub left: u32,
     // State packets queued since the queue was empty: the next one's place in the header store.
     pub states: u32,
-    // State packets taken since then: the place of the first one queued.
+    // State packets taken since then: the place of the first one still queued.
     pub gone: u32,
 }
 
-// When the retransmission timer is due: a type of its own, which only the crate drive_timer compares with a clock.
+// When the retransmission timer is due. A type of its own, which only the crate drive_timer compares with a clock.
 pub struct Deadline(pub Nanos);
 
 pub struct Timing {
@@ -94,7 +94,7 @@ pub struct Ending {
 pub struct Clocks {
     // Of the last accepted call with a clock, below 2^60.
     pub last: Nanos,
-    // Of the last drive, at most the last one.
+    // Of the last drive, at most `last`.
     pub drive: Nanos,
 }
 
@@ -105,7 +105,7 @@ pub struct Stream {
     pub queue: Queue,
     pub timing: Timing,
     pub clocks: Clocks,
-    // Last: its three bytes would put what follows at odd places, and copies of that are slow.
+    // Last field: its three bytes would misalign what follows, and copies of that are slow.
     pub ending: Ending,
 }
 

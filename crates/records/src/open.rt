@@ -54,7 +54,7 @@ fn fresh_timing(clock: Nanos) -> Timing
     }
 }
 
-// A stream before its first call, whatever the words and the stores hold. With a ceiling of 0 it is one that every call refuses.
+// A stream before its first call, whatever the words and the stores hold. With a ceiling of 0, every call refuses it.
 fn fresh_stream(local: u32, remote: u32, segments: u8, clock: Nanos) -> Stream
     ensures { λ r. ⌜ r ≡ freshStream local remote segments (clock .0) ⌝ }
 {
@@ -104,7 +104,7 @@ fn fresh_stream(local: u32, remote: u32, segments: u8, clock: Nanos) -> Stream
     }
 }
 
-// A refused open hands out a stream that every call refuses with 1: its segment ceiling is 0.
+// A refused open returns a stream that every call refuses with 1 (look shows nothing): its segment ceiling is 0.
 fn refused(why: Refusal) -> Opened
     ensures { λ r. ⌜ r ≡ refusedOpen why ⌝ }
 {
@@ -116,7 +116,7 @@ fn refused(why: Refusal) -> Opened
     }
 }
 
-// Opens a stream over lent stores, whose lengths alone are tested: what they hold does not matter, nor what the words hold.
+// Opens a stream over lent stores. Only their lengths are checked; the contents of stores and words do not matter.
 pub fn open(
     local: u32,
     remote: u32,

@@ -1,4 +1,4 @@
--- What a copy into a part of a slice, and a part of a slice, are in the terms of the contracts.
+-- Copying into a part of a slice, and taking a part of a slice, in the terms of the contracts.
 use Prim.Native.Nat.{ℕ, _+_, _-_, _≤_}
 use native.Mathlib.Omega.{arith}
 use mathlib.Core.Path.{_≡_, refl, ap, _∙_}
@@ -20,13 +20,13 @@ of-copy d at s after h =
     let short : length (take (length s) (drop at d)) ≤ length s = simp length-take (omega arith) in
     rw (h, e, take-length, drop-of-length-le (take (length s) (drop at d)) short, append-nil, drop-drop)
 
--- a header's bytes, then a payload next to them
+-- a header's bytes, then a payload right after them
 pub both : (d : List ℕ) (at : ℕ) (h : Header) (head payload : List ℕ) (first after : List ℕ) → at + 20 + length payload ≤ length d
     → head ≡ headerBytes h → first ≡ put d at head → after ≡ put first (at + 20) payload → after ≡ put d at (headerBytes h ++ payload)
 both d at h head payload first after fits is p q =
     q ∙ ap (λ (x : List ℕ). put x (at + 20) payload) (p ∙ ap (put d at) is) ∙ put-put d at 20 (headerBytes h) payload (header-length h) fits
 
--- the part from `at` on of k elements
+-- the part of k elements from `at` on
 pub part : (s : List ℕ) (at k : ℕ) → take (at + k - at) (drop at s) ≡ take k (drop at s)
 part s at k = let e : at + k - at ≡ k = omega arith in rw e refl
 

@@ -1,5 +1,4 @@
-// The three lent byte stores: a packet's bytes are put and found by its number, a state packet's by its place. Nothing above knows where
-// in a store they stand.
+// The three lent byte stores: a packet's bytes are put and found by its number, a state packet's by its place. Callers know no offsets.
 ghost use mathlib.Core.Path.{_≡_};
 ghost use mathlib.Core.List.{_++_};
 ghost use Prim.Native.Nat.{_+_, _-_, _*_, _%_, _≤_, _<_};
@@ -20,7 +19,7 @@ pub fn put_at(dst: &mut [u8], at: usize, src: &[u8])
     bytes::copy(src, &mut dst[at..end]);
 }
 
-// A header and a payload next to each other.
+// Puts a header and, right after it, a payload.
 fn put_both(dst: &mut [u8], at: usize, h: Header, payload: &[u8])
     requires { ⌜ at + 20 + length (now payload) ≤ length (now dst) ⌝ }
     ensures { λ _. ⌜ now (dst .exit) ≡ put (now (dst .entry)) at (headerBytes h ++ now (payload .entry)) ⌝ }
@@ -30,7 +29,7 @@ fn put_both(dst: &mut [u8], at: usize, h: Header, payload: &[u8])
     put_at(dst, at + UDX_HEADER_SIZE, payload);
 }
 
-// Packet h.seq, in its slot of the outgoing store (Packet::new).
+// Puts packet h.seq into its slot of the outgoing store (Packet::new).
 pub fn put_packet(outgoing: &mut [u8], h: Header, payload: &[u8])
     requires { ⌜ (length (now outgoing) ≡ 44_800) × (length (now payload) ≤ 1_380) ⌝ }
     ensures { λ _. ⌜ now (outgoing .exit) ≡ put (now (outgoing .entry)) (h .seq % 32 * 1_400)
@@ -40,7 +39,7 @@ pub fn put_packet(outgoing: &mut [u8], h: Header, payload: &[u8])
     put_both(outgoing, at, h, payload);
 }
 
-// A payload, in the slot of number n of the incoming store.
+// Puts a payload into the slot of number n of the incoming store.
 pub fn put_payload(incoming: &mut [u8], n: u32, payload: &[u8])
     requires { ⌜ (length (now incoming) ≡ 44_160) × (length (now payload) ≤ 1_380) ⌝ }
     ensures { λ _. ⌜ now (incoming .exit) ≡ put (now (incoming .entry)) (n % 32 * 1_380) (now (payload .entry)) ⌝ }
@@ -49,7 +48,7 @@ pub fn put_payload(incoming: &mut [u8], n: u32, payload: &[u8])
     put_at(incoming, at, payload);
 }
 
-// A state packet, at its place of the header store.
+// Puts a state packet at its place in the header store.
 pub fn put_header(headers: &mut [u8], place: u32, h: Header)
     requires { ⌜ (length (now headers) ≡ 1_280) × (place < 64) ⌝ }
     ensures { λ _. ⌜ now (headers .exit) ≡ put (now (headers .entry)) (place * 20) (headerBytes h) ⌝ }
@@ -59,7 +58,7 @@ pub fn put_header(headers: &mut [u8], place: u32, h: Header)
     put_at(headers, at, &head);
 }
 
-// The first bytes of packet n's slot of the outgoing store.
+// The first `size` bytes of packet n's slot of the outgoing store.
 pub fn packet_bytes(outgoing: &[u8], n: u32, size: u32) -> &[u8]
     requires { ⌜ (length (now outgoing) ≡ 44_800) × (size ≤ 1_400) ⌝ }
     ensures { λ r. ⌜ now r ≡ take size (drop (n % 32 * 1_400) (now (outgoing .entry))) ⌝ }
@@ -80,7 +79,7 @@ pub fn payload_bytes(incoming: &[u8], n: u32, from: u32, to: u32) -> &[u8]
     &incoming[start..end]
 }
 
-// The state packet at a place of the header store.
+// The state packet at a place in the header store.
 pub fn header_bytes(headers: &[u8], place: u32) -> &[u8]
     requires { ⌜ (length (now headers) ≡ 1_280) × (place < 64) ⌝ }
     ensures { λ r. ⌜ now r ≡ take 20 (drop (place * 20) (now (headers .entry))) ⌝ }

@@ -1,5 +1,5 @@
--- Words and the packets and entries that they say undo each other where each field is in its range, and a zero word is no packet.
--- Each word is n 2^32 + r with r below 2^32, and r is taken apart over plain numbers.
+-- Encoding and decoding a word undo each other where each field is in its range, and a zero word is no packet. Each word is n * 2^32 + r
+-- with r below 2^32, and r is split by plain arithmetic.
 use Prim.Native.Nat.{ℕ, _+_, _-_, _*_, _/_, _%_, _^_, _<_, _≤_}
 use native.Mathlib.Omega.{arith}
 use mathlib.Core.Path.{_≡_, refl, ap, _∙_, sym}
@@ -27,7 +27,7 @@ use Rattle.records_words.specs.Words.{
   samePacket,
 }
 
--- both of two tests
+-- the two parts of a conjunction
 
 and-left : (a b : Bool) → (a && b) ≡ true → a ≡ true
 and-left true b e = refl
@@ -37,7 +37,7 @@ and-right : (a b : Bool) → (a && b) ≡ true → b ≡ true
 and-right true b e = e
 and-right false b e = absurd (true≢false (sym e))
 
--- a mark as a number
+-- a flag as a number
 abbrev bit : Bool → ℕ
 bit b = cond b 1 0
 
@@ -49,7 +49,7 @@ bit-back : (b : Bool) → eqb (bit b) 1 ≡ b
 bit-back true = refl
 bit-back false = refl
 
--- above and below 2^32
+-- the upper and the lower 32 bits
 
 high-of : (n r : ℕ) → r < 4_294_967_296 → (4_294_967_296 * n + r) / 4_294_967_296 ≡ n
 high-of n r h = omega arith
@@ -57,7 +57,7 @@ high-of n r h = omega arith
 low-of : (n r : ℕ) → r < 4_294_967_296 → (4_294_967_296 * n + r) % 4_294_967_296 ≡ r
 low-of n r h = omega arith
 
--- a packet of the outgoing store: length 64 + transmits 2 + waiting
+-- a packet of the outgoing store: length * 64 + transmits * 2 + waiting
 
 module _ (l t w : ℕ) (hl : l < 65_536) (ht : t < 32) (hw : w < 2) where
   sent-fits : l % 65_536 * 64 + t % 32 * 2 + w < 4_294_967_296
@@ -72,7 +72,7 @@ module _ (l t w : ℕ) (hl : l < 65_536) (ht : t < 32) (hw : w < 2) where
   sent-waiting : (l % 65_536 * 64 + t % 32 * 2 + w) % 2 ≡ w
   sent-waiting = omega arith
 
--- its time sent and 1, or 0
+-- its time sent + 1, or 0
 
 timed-back : (timed : Bool) (at : ℕ) → at + 1 < 2 ^ 64 → not (eqb (cond timed ((at + 1) % 2 ^ 64) 0) 0) ≡ timed
 timed-back true at h =
@@ -115,7 +115,7 @@ stored-number p n e = eqb-true (p .number) n (and-right (not (eqb (p .length) 0)
 pub stored-full : (p : Sent) (n : ℕ) → isStored p n ≡ true → p .length ≢ 0
 stored-full p n e = eqb-false (p .length) 0 (not-true (eqb (p .length) 0) (and-left (not (eqb (p .length) 0)) (eqb (p .number) n) e))
 
--- a packet of the incoming store: (length + 1) 2^16 + offset
+-- a packet of the incoming store: (length + 1) * 2^16 + offset
 
 module _ (l o : ℕ) (hl : l < 65_536) (ho : o < 65_536) where
   held-fits : l % 65_536 * 65_536 + o % 65_536 < 4_294_967_296
@@ -146,7 +146,7 @@ held-number p n e = eqb-true (p .number) n (and-right (not (eqb (p .past) 0)) (e
 pub held-full : (p : Held) (n : ℕ) → isHeld p n ≡ true → p .past ≢ 0
 held-full p n e = eqb-false (p .past) 0 (not-true (eqb (p .past) 0) (and-left (not (eqb (p .past) 0)) (eqb (p .number) n) e))
 
--- a queue entry: length 64 + state
+-- a queue entry: length * 64 + state
 
 module _ (l s : ℕ) (hl : l < 65_536) (hs : s < 2) where
   entry-fits : l % 65_536 * 64 + s < 4_294_967_296
@@ -168,7 +168,7 @@ entry-back x hl hn =
     let fits : r < 4_294_967_296 = entry-fits l s hl hs in
     rw (high-of (x .number) r fits, low-of (x .number) r fits, entry-length l s hl hs, entry-state l s hl hs, bit-back (x .state))
 
--- number and length at once: a word divided by 64
+-- number and length together: a word divided by 64
 
 same-parts : (p w : ℕ) → p / 64 ≡ w / 64 → (p / 4_294_967_296 ≡ w / 4_294_967_296) × (p % 4_294_967_296 / 64 ≡ w % 4_294_967_296 / 64)
 same-parts p w e = (omega arith, omega arith)

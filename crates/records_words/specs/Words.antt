@@ -1,5 +1,5 @@
--- Packets and queue entries as words of lent arrays: what a word says, and the word of a packet. Only this file and src/lib.rt know
--- the bits; that each undoes the other is in proofs/WordLaws.antt.
+-- Packets and queue entries as words of lent arrays: what a word decodes to, and the word of a packet or an entry. Only this file and
+-- src/lib.rt know the bits; proofs/WordLaws.antt proves that each direction undoes the other.
 use Prim.Native.Nat.{ℕ, _+_, _-_, _*_, _/_, _%_, _^_}
 use mathlib.Core.Bool.{Bool, cond, _&&_, not}
 use mathlib.Core.List.{List}
@@ -10,14 +10,14 @@ use Rattle.records_words.specs.declared.Sent.{Sent}
 use Rattle.records_words.specs.declared.Held.{Held}
 use Rattle.records_words.specs.declared.Entry.{Entry}
 
--- above and below 2^32
+-- the upper and the lower 32 bits
 abbrev pub high : ℕ → ℕ
 high w = w / 4_294_967_296
 
 abbrev pub low : ℕ → ℕ
 low w = w % 4_294_967_296
 
--- stored packets: number 2^32 + length 64 + transmits 2 + waiting, and the time sent and 1 in a word of its own
+-- stored packets: number * 2^32 + length * 64 + transmits * 2 + waiting, and the time sent + 1 in a second word
 
 unfoldable pub sentOf : (w time : ℕ) → Sent
 sentOf w time =
@@ -30,7 +30,7 @@ sentOf w time =
       «sent_at» = nanos (time - 1);
     }
 
--- what stands in slot i
+-- the contents of slot i
 abbrev pub sentIn : List ℕ → ℕ → Sent
 sentIn words i = sentOf (getD words i 0) (getD words (32 + i) 0)
 
@@ -40,15 +40,15 @@ sentWord p = 4_294_967_296 * p .number + (p .length % 65_536 * 64 + p .transmits
 unfoldable pub sentTime : Sent → ℕ
 sentTime p = cond (p .timed) ((p .«sent_at» .0 + 1) % 2 ^ 64) 0
 
--- a word is packet n: it has that number, and a length
+-- p is packet n: it has that number, and a length
 abbrev pub isStored : Sent → ℕ → Bool
 isStored p n = not (eqb (p .length) 0) && eqb (p .number) n
 
--- it is packet n with a length from least to most
+-- p is packet n with a length from least to most
 abbrev pub isSized : Sent → (n least most : ℕ) → Bool
 isSized p n least most = eqb (p .number) n && (leb least (p .length) && leb (p .length) most)
 
--- held packets: number 2^32 + (length + 1) 2^16 + offset
+-- held packets: number * 2^32 + (length + 1) * 2^16 + offset
 
 unfoldable pub heldOf : ℕ → Held
 heldOf w = record { number = high w; past = low w / 65_536; offset = low w % 65_536 }
@@ -59,11 +59,11 @@ heldWord p = 4_294_967_296 * p .number + (p .past % 65_536 * 65_536 + p .offset 
 abbrev pub isHeld : Held → ℕ → Bool
 isHeld p n = not (eqb (p .past) 0) && eqb (p .number) n
 
--- it is packet n with at most so many bytes
+-- p is packet n with at most `most` bytes
 abbrev pub isShort : Held → (n most : ℕ) → Bool
 isShort p n most = isHeld p n && leb (p .past - 1) most
 
--- queue entries: number 2^32 + length 64 + state
+-- queue entries: number * 2^32 + length * 64 + state
 
 unfoldable pub entryOf : ℕ → Entry
 entryOf w = record { number = high w; length = low w / 64; state = eqb (low w % 2) 1 }
@@ -71,6 +71,6 @@ entryOf w = record { number = high w; length = low w / 64; state = eqb (low w % 
 unfoldable pub entryWord : Entry → ℕ
 entryWord x = 4_294_967_296 * x .number + (x .length % 65_536 * 64 + cond (x .state) 1 0)
 
--- an entry with the number and the length of a packet
+-- the entry has the packet's number and length
 abbrev pub samePacket : Sent → Entry → Bool
 samePacket p x = eqb (p .number) (x .number) && eqb (p .length) (x .length)

@@ -3,8 +3,8 @@ ghost use mathlib.Core.Path.{_≡_};
 ghost use Prim.Native.Nat.{min};
 ghost use lib.ListN.{length};
 
-// How many words there are. A proof is told the length of a slice, and not that of an array behind a reference: where it asks for the
-// length of an array, this call tells it, and costs nothing when built for release.
+// The number of words. The prover knows the length of a slice, but not of an array behind a reference: this call gives it that length, and
+// is free in a release build.
 pub fn word_count(words: &[u64]) -> usize
     ensures { λ r. ⌜ r ≡ length (now (words .entry)) ⌝ }
 {

@@ -1,13 +1,13 @@
 // Packets and queue entries as words. This crate alone knows the bits; everything else works on `Sent`, `Held` and `Entry` by value,
 // and finds a packet by its number.
 //
-//   sent[i]       number 2^32 + length 64 + transmits 2 + waiting, of the packet in slot i of the outgoing store
-//   sent[32 + i]  its time sent and 1, or 0 for none
-//   held[i]       number 2^32 + (length + 1) 2^16 + offset, of the packet in slot i of the incoming store
-//   queue[i]      number 2^32 + length 64 + state
+//   sent[i]       number * 2^32 + length * 64 + transmits * 2 + waiting, of the packet in slot i of the outgoing store
+//   sent[32 + i]  its time sent + 1, or 0 for none
+//   held[i]       number * 2^32 + (length + 1) * 2^16 + offset, of the packet in slot i of the incoming store
+//   queue[i]      number * 2^32 + length * 64 + state
 //
-// Number and length stand at the same bits in a packet's word and in its entry's, so that one comparison tells both.
-// A packet's slot is its number mod 32. A word with another number, or with 0 where the length stands, is no packet.
+// Number and length occupy the same bits in a packet's word and in its queue entry, so one comparison checks both.
+// A packet's slot is its number mod 32. A word with another number, or with 0 in the length field, is not that packet.
 mod lengths;
 
 ghost use mathlib.Core.Path.{_≡_};
@@ -40,7 +40,7 @@ pub struct Sent {
     pub length: u32,
     pub transmits: u32,
     pub waiting: bool,
-    // It has a time sent.
+    // Whether `sent_at` is set.
     pub timed: bool,
     pub sent_at: Nanos,
 }
@@ -48,7 +48,7 @@ pub struct Sent {
 // A packet of the incoming store.
 pub struct Held {
     pub number: u32,
-    // Its length and 1; 0 where there is no packet.
+    // Its length + 1; 0 where there is no packet.
     pub past: u32,
     pub offset: u32,
 }
@@ -66,7 +66,7 @@ fn slot(n: u32) -> usize
     (n % 32) as usize
 }
 
-// What stands above and below 2^32 in a word.
+// The upper and the lower 32 bits of a word.
 fn high(w: u64) -> u32
     ensures { λ r. ⌜ r ≡ w / 4_294_967_296 ⌝ }
 {
@@ -91,7 +91,7 @@ fn bit(t: bool) -> u32
     if t { 1 } else { 0 }
 }
 
-// t - 1, or 0.
+// t - 1, saturating at 0.
 fn less_one(t: u64) -> u64
     ensures { λ r. ⌜ r ≡ t - 1 ⌝ }
 {
@@ -114,7 +114,7 @@ fn sent_of(w: u64, time: u64) -> Sent
     }
 }
 
-// What stands in the slot of number n.
+// The contents of the slot of number n.
 pub fn get_sent(sent: &[u64; 64], n: u32) -> Sent
     ensures { λ r. ⌜ r ≡ sentOf (getD (now (sent .entry)) (n % 32) 0) (getD (now (sent .entry)) (32 + n % 32) 0) ⌝ }
 {
@@ -122,14 +122,14 @@ pub fn get_sent(sent: &[u64; 64], n: u32) -> Sent
     sent_of(sent[i], sent[32 + i])
 }
 
-// It is packet n.
+// Whether p is packet n.
 pub fn is_stored(p: Sent, n: u32) -> bool
     ensures { λ r. ⌜ r ≡ isStored p n ⌝ }
 {
     if p.length == 0 { false } else { p.number == n }
 }
 
-// The slot of number n holds packet n with a length from least to most.
+// Whether the slot of number n holds packet n with a length from least to most.
 pub fn is_sized(sent: &[u64; 64], n: u32, least: u32, most: u32) -> bool
     requires { ⌜ (least ≤ most) × (most < 67_108_864) ⌝ }
     ensures { λ r. ⌜ r ≡ isSized (sentIn (now (sent .entry)) (n % 32)) n least most ⌝ }
@@ -169,7 +169,7 @@ pub fn put_sent(sent: &mut [u64; 64], p: Sent)
     sent[32 + i] = t;
 }
 
-// No packet stands in the slot of number n any more.
+// Empties the slot of number n.
 pub fn clear_sent(sent: &mut [u64; 64], n: u32)
     ensures { λ _. ⌜ now (sent .exit) ≡ set (now (sent .entry)) (n % 32) 0 ⌝ }
 {
@@ -202,7 +202,7 @@ pub fn is_held(p: Held, n: u32) -> bool
     if p.past == 0 { false } else { p.number == n }
 }
 
-// The slot of number n holds packet n with at most so many bytes.
+// Whether the slot of number n holds packet n with at most `most` bytes.
 pub fn is_short(held: &[u64; 32], n: u32, most: u32) -> bool
     requires { ⌜ most < 65_535 ⌝ }
     ensures { λ r. ⌜ r ≡ isShort (heldOf (getD (now (held .entry)) (n % 32) 0)) n most ⌝ }
@@ -255,7 +255,7 @@ pub fn get_entry(queue: &[u64; 128], i: usize) -> Entry
     entry_of(queue[i])
 }
 
-// The word in the slot of the entry's number has its number and its length.
+// Whether the word in the slot of entry i's number has that number and length.
 pub fn same_packet(queue: &[u64; 128], i: usize, sent: &[u64; 64]) -> bool
     requires { ⌜ i < 128 ⌝ }
     ensures { λ r. ⌜ r ≡ samePacket (sentIn (now (sent .entry)) (entryOf (getD (now (queue .entry)) i 0) .number % 32))

@@ -1,5 +1,5 @@
--- A sample keeps an estimate in range. Both new values are means of values below 2^60, whose weights sum to the divisor, so they are
--- below 2^60 too; and the rto that follows from two such values is 1,000 ms to 5 x 2^60.
+-- A sample keeps an estimate in range. Both new values are weighted means of values below 2^60 (the weights add up to the divisor), so they
+-- are below 2^60 too; and the rto that follows from two such values is 1,000 ms to 5 x 2^60.
 use Prim.Native.Nat.{ℕ, _+_, _*_, _/_, _^_, _<_}
 use mathlib.Core.Path.{_≡_}
 use mathlib.Core.Bool.{Bool, true, false, cond}

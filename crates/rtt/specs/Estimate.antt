@@ -47,7 +47,7 @@ pub record InRange (e : Rtt) : Type 0 where
   pub least : 1_000_000_000 ≤ e .rto .0
   pub most : e .rto .0 ≤ 5 * 2 ^ 60
 
--- what a sample says of the estimate before and after: the rule, and that the ranges are kept
+-- the contract of a sample: the estimate follows the rule, and the ranges are kept
 pub record Samples (before : Rtt) (r : ℕ) (after : Rtt) : Type 0 where
   pub estimate : after ≡ sampled before r
   pub range : InRange after

@@ -1,11 +1,11 @@
-// The congestion window: its growth in handle_incoming, its halving in poll_check_timeouts.
+// The congestion window: growth (handle_incoming) and halving (poll_check_timeouts).
 ghost use mathlib.Core.Path.{_≡_};
 ghost use Rattle.rtt.specs.Window.{grown, halved};
 use constants::CWND_MAX;
 use constants::SSTHRESH;
 use constants::UDX_MTU;
 
-// The window after a delivery whose ack is news. Any window is answered; the last step is cut, so that no sum can wrap.
+// The window after a delivery with a new ack. Total: the last step is cut at CWND_MAX, so no sum can wrap.
 pub fn grow(cwnd: u32) -> u32
     ensures { λ r. ⌜ r ≡ grown cwnd ⌝ }
 {

@@ -16,7 +16,7 @@ pub struct Rtt {
 }
 
 impl Rtt {
-    // The estimate of a stream that has no sample (UdxStream::connect).
+    // The estimate of a stream that has no sample yet (UdxStream::connect).
     pub fn new() -> Rtt
         ensures { λ r. ⌜ r ≡ fresh ⌝ }
     {
@@ -27,7 +27,7 @@ impl Rtt {
         }
     }
 
-    // An estimate with the rto that follows from it.
+    // srtt and rttvar with the rto that follows from them.
     fn with_rto(srtt: Nanos, rttvar: Nanos) -> Rtt
         requires { ⌜ (srtt .0 < 2 ^ 60) × (rttvar .0 < 2 ^ 60) ⌝ }
         ensures { λ r. ⌜ r ≡ timed (srtt .0) (rttvar .0) ⌝ }

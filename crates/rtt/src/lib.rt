@@ -1,4 +1,4 @@
-// Nanoseconds, the round-trip estimate (RFC 6298, 2.2 to 2.4) and the congestion window. Knows nothing of packets.
+// Nanoseconds, the round-trip estimate (RFC 6298, 2.2 to 2.4) and the congestion window. Knows nothing about packets.
 mod cwnd;
 mod estimate;
 mod nanos;

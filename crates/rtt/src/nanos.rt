@@ -14,7 +14,7 @@ impl Nanos {
         if self.0 < other.0 { other } else { self }
     }
 
-    // How far two spans are apart (Duration::abs_diff).
+    // The distance between two spans (Duration::abs_diff).
     pub fn abs_diff(self, other: Nanos) -> Nanos
         ensures { λ r. ⌜ r .0 ≡ apart (self .0) (other .0) ⌝ }
     {

@@ -1,4 +1,4 @@
--- What the code of refusal 1 finds is its test: the lengths, then the rules.
+-- The code's answer is refusal 1's test: the lengths, then the rules.
 use mathlib.Core.Path.{_≡_, sym}
 use mathlib.Core.Bool.{true, false}
 use Rattle.records.specs.declared.Stream.{Stream}

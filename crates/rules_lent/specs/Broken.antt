@@ -1,4 +1,4 @@
--- Refusal 1 over all that a call is lent.
+-- Refusal 1, over everything that a call is lent.
 use Prim.Native.Nat.{ℕ}
 use mathlib.Core.Bool.{Bool, _||_, not}
 use mathlib.Core.List.{List}

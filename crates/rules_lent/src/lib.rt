@@ -38,7 +38,7 @@ pub fn broken(
         (now (incoming .entry)) (now (headers .entry))))
         × (length (now (queue .entry)) ≡ 128) ⌝ }
 {
-    // Never so: an array has its length.
+    // Unreachable: tells the prover the length.
     if word_count(queue) != 128 {
         return true;
     }

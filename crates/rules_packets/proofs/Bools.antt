@@ -1,4 +1,4 @@
--- What a conjunction that holds says.
+-- The parts of a conjunction that holds.
 use native.Mathlib.Omega.{arith}
 use Prim.Native.Nat.{ℕ}
 use mathlib.Core.Path.{_≡_, refl}

@@ -1,5 +1,5 @@
--- Tests and sums over the numbers from n to below e, as a loop that goes up computes them: the first test that fails ends it, and a sum so
--- far together with the rest is the whole.
+-- Tests and sums over the numbers from n to below e, as an upward loop computes them: the first test that fails ends it, and the sum so far
+-- plus the rest is the whole.
 use Prim.Native.Nat.{ℕ, suc, _+_, _-_, _<_, _≤_}
 use native.Mathlib.Numerals.{add-one}
 use native.Mathlib.Nat.{add-assoc, add-zero, zero-add}
@@ -8,7 +8,7 @@ use mathlib.Core.Path.{_≡_, refl}
 use mathlib.Core.Bool.{Bool, true, false, _&&_}
 use Rattle.rules_packets.specs.Packets.{everyFrom, sumFrom}
 
--- one number more: how many are left
+-- one more number: how many are left
 left : (n e : ℕ) → n < e → e - n ≡ suc (e - (n + 1))
 left n e h = omega arith
 

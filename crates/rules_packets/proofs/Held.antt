@@ -15,7 +15,7 @@ use Rattle.rules_packets.specs.Packets.{everyFrom, heldOk, okReceiver}
 use Rattle.rules_packets.specs.Passes.{payloadOk, heldKept}
 use Rattle.rules_packets.proofs.Bools.{and-left, and-right}
 
--- the test of number and length in one, with the offset's, says that packet n is held and keeps its rules
+-- the combined test of number and length, with the offset's, means that packet n is held and keeps its rules
 
 chain : (h s f g : Bool) → (h ≡ true → f ≡ g) → ((h && s) && f) ≡ (h && (s && g))
 chain true s f g e = rw (e refl)
@@ -34,7 +34,7 @@ fits p n e = go (ltb (p .offset) (p .past)) refl
 kept-is : (p : Held) (n : ℕ) → heldKept p n ≡ (isHeld p n && payloadOk p)
 kept-is p n = chain (isHeld p n) (leb (p .past - 1) 1_380) (ltb (p .offset) (p .past)) (leb (p .offset) (p .past - 1)) (fits p n)
 
--- the test as the code makes it
+-- the test as the code computes it
 pub kept-by : (words : List ℕ) (n : ℕ) (p : Held) (short kept : Bool) → p ≡ heldOf (getD words (n % 32) 0) → short ≡ isShort (heldOf (getD words (n % 32) 0)) n 1_380
     → kept ≡ (short && ltb (p .offset) (p .past)) → kept ≡ heldKept p n
 kept-by words n p short kept p-is short-is kept-is = rw (kept-is, short-is, p-is)
@@ -42,7 +42,7 @@ kept-by words n p short kept p-is short-is kept-is = rw (kept-is, short-is, p-is
 module _
     (cursor top n : ℕ) (words : List ℕ) (p : Held) (p-is : p ≡ heldOf (getD words (n % 32) 0))
     (h : cursor ≤ n) (k : n < top) (l : top ≤ cursor + 32) (m : top ≤ 4_294_967_295) where
-  -- from the read cursor to below top a packet's own rules are all that is left of its rule
+  -- from the read cursor to below top, only the packet's own rules are left to check
   rule-of : heldOk cursor words n ≡ cond (isHeld p n) (payloadOk p) true
   rule-of =
       simp (p-is, eq-eqb (n % 32) (n % 32) refl, le-leb cursor n h, lt-ltb n (cursor + 32) (omega arith), lt-ltb n 4_294_967_295 (omega arith))

@@ -1,5 +1,5 @@
--- Lists made by a function of the place (`table`) and pieces cut out of a store (`cut`): how long they are, and what stands in a list so
--- made. A piece is filled up with zeros, so its length is the one asked for, whatever the store.
+-- Lists built from a function of the index (`table`) and pieces cut out of a store (`cut`): their lengths, and the elements of such a list.
+-- A piece is padded with zeros, so it has the length asked for, whatever the store.
 use Prim.Native.Nat.{ℕ, zero, suc, _≤_, _<_}
 use native.Mathlib.Omega.{arith}
 use mathlib.Core.Path.{_≡_, refl, ap}

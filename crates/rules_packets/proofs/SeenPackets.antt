@@ -1,5 +1,5 @@
--- The stored and the held packets: the rules of the words are the model's rules of what is seen, whatever the stores hold. Both stores are
--- read as proofs/SeenStore.antt says, and a piece has the length that its word says (`cut-length`).
+-- The stored and the held packets: the rules over the words are the model's rules of what is seen, whatever the stores hold. Both stores
+-- are read as in proofs/SeenStore.antt, and a piece has the length that is in its word (`cut-length`).
 use Prim.Native.Nat.{ℕ, _-_, _%_}
 use mathlib.Core.Path.{_≡_, sym, ap, _∙_}
 use mathlib.Core.List.{List}
@@ -22,7 +22,7 @@ use Rattle.rules_packets.proofs.SeenStore.{View, found, every-seen, sum
 
 -- stored packets
 
--- the model's `storedTest`, over the numbers of an end that it looks at
+-- the model's `storedTest`, over only those numbers of an end that it reads
 abbrev storedBy : (remoteAcked seq clock slot n : ℕ) → model.Packet → Bool
 storedBy remoteAcked seq clock slot n p = storedRule remoteAcked seq clock slot n (length (p .bytes)) (p .marks .transmits) (p .marks .sent)
 
@@ -74,7 +74,7 @@ sender-seen s t clock words bytes =
 
 -- held packets
 
--- the model's `heldTest`, over the number of a receiver that it looks at
+-- the model's `heldTest`, over the one number of a receiver that it reads
 abbrev heldBy : (readCursor slot n : ℕ) → model.Held → Bool
 heldBy readCursor slot n h = heldRule readCursor slot n (length (h .payload)) (h .offset)
 

@@ -1,6 +1,6 @@
--- A store as it is seen in words: slot i holds a value where the word there has a number in a range, a number of that slot, and is marked
--- as there. What is found under a number (`found`), and that tests and sums over the slots go over the numbers of the range
--- (`every-seen`, `sum-seen`). Said once for stored and for held packets.
+-- What is seen of a store through its words: slot i holds a value if its word is marked as there and has a number that is in a range and
+-- belongs to that slot. What is found under a number (`found`), and that tests and sums over the slots go over the numbers of the range
+-- (`every-seen`, `sum-seen`). Proved once for stored and held packets.
 use Prim.Native.Nat.{ℕ, zero, suc, _+_, _-_, _%_, _≤_, _<_}
 use native.Mathlib.Decide.{ℕ-discrete}
 use native.Mathlib.Omega.{arith}
@@ -51,7 +51,7 @@ module _ {A : Type 0} (v : A) where
   value-other true m n ne = rw (ne-eqb m n ne)
   value-other false m n ne = refl
 
--- how a store is read out of words: the numbers that count, and what the word in slot i says
+-- how a store is read from words: the range of numbers, and what the word in slot i decodes to
 pub record View (A : Type 0) : Type 0 where
   pub low : ℕ
   pub high : ℕ
@@ -96,7 +96,7 @@ module _ {A : Type 0} (w : View A) where
       pick true = refl
       pick false = refl
 
-  -- the values are among the numbers that count
+  -- the values have numbers in the range
 
   holds-says : (i m : ℕ) → holds w i m ≡ true → (m % ceiling ≡ i) × ((w .low ≤ m) × (m < w .low + (w .high - w .low)))
   holds-says i m h =

@@ -1,5 +1,4 @@
--- The pass over the stored packets: what is known at each number of it (`Going`), and that it stays known, packet or not, until a packet
--- breaks a rule.
+-- The pass over the stored packets: its invariant (`Going`), which each number keeps, packet or not, until a packet breaks a rule.
 use Prim.Native.Nat.{ℕ, _+_, _-_, _*_, _%_, _<_, _≤_}
 use native.Mathlib.Omega.{arith}
 use native.Mathlib.Nat.{zero-add}
@@ -17,7 +16,7 @@ use Rattle.rules_packets.specs.Passes.{inTime, packetOk, keptOk, StoredS
 use Rattle.rules_packets.proofs.Bools.{and-left, and-right}
 use Rattle.rules_packets.proofs.From.{every-done, every-turn, every-stop, sum-done, sum-turn, sum-skip}
 
--- the test of number and length in one, with the other rules, says that packet n is stored and keeps its rules
+-- the combined test of number and length, with the other rules, means that packet n is stored and keeps its rules
 
 chain : (a b c t u z : Bool) → (b ≡ true → z ≡ true) → (((a && (b && c)) && t) && u) ≡ ((z && a) && (b && (c && (t && u))))
 chain true true c t u z h = rw (h refl) (and-assoc c t u)
@@ -34,12 +33,12 @@ kept-is : (p : Sent) (n clock : ℕ) → keptOk p n clock ≡ (isStored p n && p
 kept-is p n clock =
     chain (eqb (p .number) n) (leb 21 (p .length)) (leb (p .length) 1_400) (leb (p .transmits) 7) (inTime p clock) (not (eqb (p .length) 0)) (full (p .length))
 
--- the test as the code makes it
+-- the test as the code computes it
 pub kept-by : (words : List ℕ) (n clock : ℕ) (p : Sent) (fits few time kept : Bool) → p ≡ sentIn words (n % 32) → fits ≡ isSized (sentIn words (n % 32)) n 21 1_400
     → few ≡ (fits && leb (p .transmits) 7) → time ≡ inTime p clock → kept ≡ (few && time) → kept ≡ keptOk p n clock
 kept-by words n clock p fits few time kept p-is fits-is few-is time-is kept-is = rw (kept-is, few-is, fits-is, time-is, p-is)
 
--- the payload of one packet more
+-- the payload with one more packet
 payload-more : (lengths packets l : ℕ) → 20 * packets ≤ lengths → 20 ≤ l → lengths + l - 20 * (packets + 1) ≡ lengths - 20 * packets + (l - 20)
 payload-more lengths packets l h k = omega arith
 
@@ -47,12 +46,12 @@ differ : (b : Bool) → b ≡ false → b ≡ true → ⊥
 differ b e h = let z : _≡_ {A = ℕ} 0 1 = cc in omega arith
 
 module _ (acked seq clock : ℕ) (words : List ℕ) where
-  -- from acked to below seq a packet's own rules are all that is left of its rule
+  -- from acked to below seq, only the packet's own rules are left to check
   rule-of : (n : ℕ) → acked ≤ n → n < seq
       → storedOk acked seq clock words n ≡ cond (isStored (sentIn words (n % 32)) n) (packetOk (sentIn words (n % 32)) clock) true
   rule-of n h k = simp (eq-eqb (n % 32) (n % 32) refl, le-leb acked n h, lt-ltb n seq k)
 
-  -- what was found below n, with what the numbers from n on add to it
+  -- the invariant: what was found below n, plus what the numbers from n on add, is the total
   pub record Going (n : ℕ) (inflight packets lengths : ℕ) : Type 0 where
     pub all : everyFrom (seq - n) n (storedOk acked seq clock words) ≡ everyFrom (seq - acked) acked (storedOk acked seq clock words)
     pub inflight-is : inflight + sumFrom (seq - n) n (inflightAt words) ≡ sumFrom (seq - acked) acked (inflightAt words)
@@ -181,7 +180,7 @@ module _ (s : Sender) (t : Totals) (clock : ℕ) (words : List ℕ) where
   near false inflight packets bytes h k w =
       simp (le-leb (s .«remote_acked») (s .seq) h, le-leb (s .seq) (s .«remote_acked» + 32) k, sym (w .all), and-false)
 
-  -- a sender that keeps its rules has its packets near each other
+  -- a sender that keeps its rules has seq at most 32 past remote acked
   pub near-of : okSender s t clock words ≡ true → s .seq ≤ s .«remote_acked» + 32
   unfolding okSender
   near-of h =

@@ -1,5 +1,5 @@
--- 01's rules of the stored and of the held packets over the numbers of the records and their words, packets in number order.
--- No byte of a store is looked at. That it is just what the model's rules say of what is seen is proofs/SeenPackets.antt.
+-- 01's rules of the stored and the held packets, over the records' numbers and words, packets in number order. No byte of a store is read.
+-- proofs/SeenPackets.antt proves that they are exactly the model's rules of what is seen, and the receiver's layout.
 use Prim.Native.Nat.{ℕ, zero, suc, _+_, _-_, _%_}
 use mathlib.Core.List.{List}
 use mathlib.Core.Option.{Option, none, some}

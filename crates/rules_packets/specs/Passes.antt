@@ -1,4 +1,4 @@
--- What the passes over the packets find, piece by piece: the rules of one packet, and what is known after a whole pass.
+-- What the passes over the packets find: the rules of one packet, and what is known after a whole pass.
 use Prim.Native.Nat.{ℕ, _-_}
 use mathlib.Core.Path.{_≡_}
 use mathlib.Core.List.{List}
@@ -18,7 +18,7 @@ inTime p clock = on (timeSent p) true (λ t. leb t clock)
 abbrev pub packetOk : Sent → ℕ → Bool
 packetOk p clock = leb 21 (p .length) && (leb (p .length) 1_400 && (leb (p .transmits) 7 && inTime p clock))
 
--- the same with the word's own test of number and length
+-- the same, with the word's combined test of number and length
 abbrev pub keptOk : Sent → (n clock : ℕ) → Bool
 keptOk p n clock = (isSized p n 21 1_400 && leb (p .transmits) 7) && inTime p clock
 
@@ -34,6 +34,6 @@ pub record StoredSums (acked seq clock : ℕ) (words : List ℕ) (good : Bool) (
 abbrev pub payloadOk : Held → Bool
 payloadOk p = leb (p .past - 1) 1_380 && leb (p .offset) (p .past - 1)
 
--- the same with the word's own test of number and length
+-- the same, with the word's combined test of number and length
 abbrev pub heldKept : Held → ℕ → Bool
 heldKept p n = isShort p n 1_380 && ltb (p .offset) (p .past)

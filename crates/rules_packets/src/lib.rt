@@ -1,4 +1,4 @@
-// Refusal 1's rules of the stored packets and of the held ones, each in one pass. specs/Packets.antt has the rules.
+// Refusal 1's rules of the stored and the held packets, each checked in one pass. specs/Packets.antt has the rules.
 mod receiver;
 mod sender;
 

@@ -6,7 +6,7 @@ ghost use Rattle.rules_packets.specs.Packets.{everyFrom, heldOk, okRecei
 use picks::both;
 use records::Receiver;
 
-// The held packets lie from the cursor to below top, each in the slot of its number.
+// Checks the held packets, which are from the cursor to below top, each in the slot of its number.
 fn all_held(cursor: u32, top: u32, held: &[u64; 32]) -> bool
     requires { ⌜ top ≤ cursor + 32 ⌝ }
     ensures { λ r. ⌜ r ≡ everyFrom (top - cursor) cursor (heldOk cursor (now (held .entry))) ⌝ }
@@ -20,7 +20,7 @@ fn all_held(cursor: u32, top: u32, held: &[u64; 32]) -> bool
         if both(short, p.offset < p.past) {
             n += 1;
         } else {
-            // Asked only here: most words pass the test above.
+            // Checked only here: most words pass the test above.
             if records::is_held(p, n) {
                 return false;
             }

@@ -45,7 +45,7 @@ fn broken() -> Sums
     }
 }
 
-// The stored packets lie from acked to below seq, each in the slot of its number.
+// Checks and sums the stored packets, which are from acked to below seq, each in the slot of its number.
 fn stored(acked: u32, seq: u32, clock: Nanos, sent: &[u64; 64]) -> Sums
     requires { ⌜ seq ≤ acked + 32 ⌝ }
     ensures { λ r. ⌜ StoredSums acked seq (clock .0) (now (sent .entry)) (r .good) (r .inflight) (r .packets) (r .bytes) ⌝ }

@@ -1,4 +1,4 @@
--- The pass over the queue's entries: what is known at each of them (`Going`), and that it stays known, state packet, stored packet or any other.
+-- The pass over the queue's entries: its invariant (`Going`), which each entry keeps, be it a state packet, a stored packet or any other.
 use Prim.Native.Nat.{ℕ, _+_, _%_, _<_, _≤_}
 use native.Mathlib.Numerals.{add-one}
 use native.Mathlib.Nat.{zero-add, add-zero}
@@ -34,14 +34,14 @@ either : (b : Bool) → true ≡ cond b true true
 either true = refl
 either false = refl
 
--- the test of a stored packet's entry as the code makes it
+-- the test of a stored packet's entry as the code computes it
 pub plain-by : (acked seq : ℕ) (sent words : List ℕ) (i : ℕ) (x : Entry) (t same : Bool) → x ≡ entryOf (getD words i 0)
     → same ≡ samePacket (sentIn sent (entryOf (getD words i 0) .number % 32)) (entryOf (getD words i 0))
     → t ≡ (leb acked (x .number) && (ltb (x .number) seq && (same && sized (x .length)))) → t ≡ plainOk acked seq sent x
 plain-by acked seq sent words i x t same x-is same-is t-is = rw (t-is, same-is, x-is)
 
 module _ (acked seq first end : ℕ) (sent words : List ℕ) where
-  -- what was found below i, with what the entries from i on add to it
+  -- the invariant: what was found below i, plus what the entries from i on add, is the total
   pub record Going (i : ℕ) (marks : List Bool) (good new : Bool) (states : ℕ) : Type 0 where
     pub all : (good && every (entryRule acked seq sent) (rest words end i)) ≡ every (entryRule acked seq sent) (rest words end first)
     pub fresh-is : (new && fresh acked seq marks (packetNumbers (rest words end i)))
@@ -89,7 +89,7 @@ module _ (acked seq first end : ℕ) (sent words : List ℕ) where
           few = omega arith;
         }
 
-    -- the entry of a stored packet with that packet's length, whose mark is not set
+    -- the fast path: the entry of a stored packet with that packet's length, its mark not set
     pub alike : (t : Bool) → x .state ≡ false → t ≡ plainOk acked seq sent x → (t && not (getD marks (x .number % 32) false)) ≡ true
         → Going (i + 1) (set marks (x .number % 32) true) good new states
     alike t e t-is h =

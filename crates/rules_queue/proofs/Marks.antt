@@ -1,5 +1,4 @@
--- Distinct numbers by marks: with one mark for each slot, the numbers of a window of 32 are distinct just if none finds its mark set by
--- an earlier one.
+-- Distinctness by marks: with one mark per slot, the numbers of a window of 32 are distinct exactly if none finds its mark already set.
 use Prim.Native.Nat.{ℕ, _+_, _%_, _≤_}
 use native.Mathlib.Omega.{arith}
 use mathlib.Core.Path.{_≡_, refl, ap, _∙_}
@@ -18,14 +17,14 @@ use Rattle.rules_queue.specs.Passes.{known}
 abbrev pub free : List Bool → ℕ → Bool
 free marks n = not (getD marks (n % 32) false)
 
--- the pass: each number is one of the window and finds its mark not set, and sets it
+-- the pass: each number is in the window and finds its mark not set, and sets it
 unfoldable pub fresh : (acked seq : ℕ) → List Bool → List ℕ → Bool
 fresh acked seq marks [] = true
 fresh acked seq marks (n ∷ ns) = (known acked seq n && free marks n) && fresh acked seq (set marks (n % 32) true) ns
 
 module _ (acked seq : ℕ) (near : seq ≤ acked + 32) where
   module _ (n : ℕ) (marks : List Bool) (l : length marks ≡ 32) (k : known acked seq n ≡ true) where
-    -- a number's mark after n's is set
+    -- a number's mark after setting n's
     free-set : (m : ℕ) → known acked seq m ≡ true → free (set marks (n % 32) true) m ≡ (not (eqb n m) && free marks m)
     free-set m j = go (eqb n m) refl
       where

@@ -1,5 +1,4 @@
--- The queue's rules from what the pass over its entries finds: the rules of one entry, the two kinds of entries counted, and the tests
--- one after the other.
+-- The queue's rules from what the pass over its entries finds: the rules of one entry, the count of each kind, and the tests in order.
 use Prim.Native.Nat.{ℕ, _+_, _-_, _%_, _<_, _≤_}
 use native.Mathlib.Omega.{arith}
 use mathlib.Core.Path.{_≡_, refl, ap, _∙_}

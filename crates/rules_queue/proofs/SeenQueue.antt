@@ -1,5 +1,5 @@
--- The queue: the rules of its words are the layout's and the model's of the entries seen. The entries of some words are as many, and their
--- state packets and packet numbers are those of the words; while some are left to take they are just those left.
+-- The queue: the rules over its words are its layout and the model's rules of the entries seen. There are as many entries as words, with
+-- the same state packets and packet numbers; while some are left to take, the entries are exactly those left.
 use Prim.Native.Nat.{ℕ, suc, _+_, _%_, _≤_, _<_}
 use native.Mathlib.Omega.{arith}
 use mathlib.Core.Path.{_≡_, refl, sym, ap₂, _∙_}
@@ -69,12 +69,12 @@ module _ (headers : Bytes) where
         on-cond (every (entryTest outgoing)) (entryOf w .state) _ _
         ∙ rw (cut-length, same-length (entryOf w .number) (entryOf w .length), entries-every (suc place) ws, entries-every place ws) (sym (on-cond (λ b. b && entriesOk s sent ws) (entryOf w .state) _ _))
 
--- while entries are left to take, they are just those left
+-- while entries are left to take, the queue is exactly those left
 pub left-length : (q : Queue) (words : List ℕ) → length words ≡ 128 → q .count ≤ 128 → q .left ≤ q .count → eqb (q .left) 0 ≡ false → length (entryWords q words) ≡ q .left
 unfolding entryWords
 left-length q words len h k z = rw z (simp (length-drop, length-take) (omega arith))
 
--- the tests of the words, and the same tests as layout and rules; those that take no part are any
+-- the tests over the words, regrouped as layout and rules; the tests themselves are arbitrary
 module _ (count left n : ℕ) (whole : count ≤ 128 → left ≤ count → eqb left 0 ≡ false → n ≡ left) (entries rest taking room states gone : Bool) where
   order : (a b : Bool) → (entries && (a && b)) ≡ (b && (entries && a))
   order a b = sym (and-assoc entries a b) ∙ and-comm (entries && a) b

@@ -1,5 +1,5 @@
--- 01's rules of the queue over the numbers of the records and its words. No byte of a store is looked at. That it is just what the
--- model's rules say of what is seen is proofs/SeenQueue.antt.
+-- 01's rules of the queue, over the records' numbers and the queue's words. No byte of a store is read. proofs/SeenQueue.antt proves that
+-- they are exactly the model's rules of what is seen, and the queue's layout.
 use Prim.Native.Nat.{ℕ, suc, _+_, _%_}
 use mathlib.Core.List.{List, [], _∷_}
 use mathlib.Core.Option.{Option, none, some}
@@ -50,7 +50,7 @@ atRestOk s ws =
 abbrev pub toTakeOk : List ℕ → Bool
 toTakeOk ws = leb (stateCount ws) 64 && leb (length (packetNumbers ws)) 64
 
--- the entries fit the words, the state packets the header store, and the counts of state packets are those of the entries
+-- the state packets fit the header store, and the two counts of state packets match the entries
 abbrev pub placesOk : Queue → ℕ → Bool
 placesOk q states = leb (q .states) 64 && (eqb (q .states) (q .gone + states) && cond (eqb (q .left) 0) (eqb (q .gone) 0) true)
 

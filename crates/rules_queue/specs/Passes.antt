@@ -27,7 +27,7 @@ queuedOk near sent x =
     let p = sentIn sent (x .number % ceiling) in
     sized (x .length) && cond (near && isStored p (x .number)) (eqb (x .length) (p .length)) true
 
--- the entry of a stored packet with that packet's length, which keeps its rules
+-- the fast path: the entry of a stored packet with that packet's length, which therefore keeps its rules
 abbrev pub plainOk : (acked seq : ℕ) → List ℕ → Entry → Bool
 plainOk acked seq sent x =
     leb acked (x .number) && (ltb (x .number) seq && (samePacket (sentIn sent (x .number % ceiling)) x && sized (x .length)))
@@ -35,8 +35,8 @@ plainOk acked seq sent x =
 abbrev pub entryRule : (acked seq : ℕ) → List ℕ → ℕ → Bool
 entryRule acked seq sent w = cond (entryOf w .state) true (queuedOk (known acked seq (entryOf w .number)) sent (entryOf w))
 
--- the pass over the entries: whether each keeps its rules, whether the packets' numbers are distinct and from remote acked to below seq, and
--- how many state packets there are
+-- the pass over the entries: whether each keeps its rules, whether the packets' numbers are distinct and from remote acked to below seq,
+-- and how many state packets there are
 pub record EntriesPassed (acked seq : ℕ) (sent ws : List ℕ) (good fresh : Bool) (states : ℕ) : Type 0 where
   pub all : good ≡ every (entryRule acked seq sent) ws
   pub fresh-is : fresh ≡ (distinct (packetNumbers ws) && every (known acked seq) (packetNumbers ws))

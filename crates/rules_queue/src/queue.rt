@@ -17,8 +17,8 @@ use records::Entry;
 use records::Queue;
 use records::Sender;
 
-// What the pass over the entries finds: that each keeps its rules, that the packets' numbers are distinct and from remote acked to below
-// seq, and how many state packets there are.
+// What the pass over the entries finds: whether each keeps its rules, whether the packets' numbers are distinct and from remote acked to
+// below seq, and how many state packets there are.
 struct Passed {
     good: bool,
     fresh: bool,
@@ -32,7 +32,7 @@ fn sized(size: u32) -> bool
     both(21 <= size, size <= UDX_MTU)
 }
 
-// An entry that is no state packet; near says that its number is from remote acked to below seq.
+// An entry that is not a state packet; `near`: its number is from remote acked to below seq.
 fn queued_ok(near: bool, x: Entry, sent: &[u64; 64]) -> bool
     ensures { λ r. ⌜ r ≡ queuedOk near (now (sent .entry)) x ⌝ }
 {
@@ -43,8 +43,7 @@ fn queued_ok(near: bool, x: Entry, sent: &[u64; 64]) -> bool
     both(sized(x.length), same)
 }
 
-// The quick test: a packet that is stored with the entry's length, as most are. same says that the word in its slot has its number and
-// its length.
+// The fast path: a stored packet with the entry's length, as most are. `same`: the word in its slot has its number and length.
 fn plain(acked: u32, seq: u32, x: Entry, same: bool) -> bool
     ensures { λ r. ⌜ r ≡ (leb acked (x .number) && (ltb (x .number) seq && (same && sized (x .length)))) ⌝ }
 {
@@ -54,7 +53,7 @@ fn plain(acked: u32, seq: u32, x: Entry, same: bool) -> bool
     )
 }
 
-// The entries of the words from first to below end. One mark for each slot tells whether a number was there before.
+// Checks the entries in the words from first to below end. One mark per slot records whether a number was seen before.
 fn entries(
     first: usize,
     end: usize,
@@ -98,7 +97,7 @@ fn entries(
     }
 }
 
-// The state packets fit the header store, and the counts of them are those of the entries.
+// The state packets fit the header store, and their two counts match the entries.
 fn places_ok(q: Queue, states: u32) -> bool
     ensures { λ r. ⌜ r ≡ placesOk q states ⌝ }
 {
@@ -120,7 +119,7 @@ pub fn ok_queue(q: Queue, s: Sender, queue: &[u64; 128], sent: &[u64; 64]) -> bo
     if q.left > q.count {
         return false;
     }
-    // With none left to take, all of them are queued; else the last `left` are.
+    // With none left to take, the queue is all of them, else the last `left`.
     let rest = q.left == 0;
     let many = pick32(rest, q.count, q.left);
     let first = less(q.count, many) as usize;

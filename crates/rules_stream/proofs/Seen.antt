@@ -1,5 +1,5 @@
--- Refusal 1 tested on the records is just the model's rules of what is seen of them, and the layout (`ok-seen`): group by group, then the
--- tests in another order. Both ways as facts: `ok-says`, `ok-said`. And that it never comes after calls from a fresh stream
+-- Refusal 1's test of the records is exactly the model's rules of what is seen of them, and the layout (`ok-seen`): group by group, then
+-- the tests reordered. Each direction as facts: `ok-says`, `ok-said`. And records never fail it after calls from a fresh stream
 -- (`never-refused`), since the model's rules always hold then.
 use mathlib.Core.Path.{_≡_, refl, sym, _∙_}
 use mathlib.Core.Bool.{Bool, true, false, _&&_, and-false}

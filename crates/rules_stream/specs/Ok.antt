@@ -1,5 +1,5 @@
--- Refusal 1 on the records: 01's rules over the numbers of the records and their words, and how the records are laid out. No byte of a
--- store is looked at. That it is just `formed` and the model's `rules` of what is seen is proofs/Seen.antt.
+-- Refusal 1 on the records: 01's rules over the records' numbers and words, and how the records are laid out. No byte of a store is read.
+-- proofs/Seen.antt proves that this is exactly `formed` and the model's `rules` of what is seen.
 use Prim.Native.Nat.{ℕ}
 use mathlib.Core.List.{List}
 use mathlib.Core.Bool.{Bool, _&&_}
@@ -11,7 +11,7 @@ use Rattle.records.specs.declared.Totals.{Totals}
 use Rattle.rules_packets.specs.Packets.{okSender, okReceiver}
 use Rattle.rules_queue.specs.Entries.{okQueue}
 
--- the rest: "neither .. nor the last drive's clock is past the last clock, which is below 2^60"
+-- "neither .. nor the last drive's clock is past the last clock, which is below 2^60"
 abbrev pub clocksOk : Clocks → Bool
 clocksOk c = leb (c .drive .0) (c .last .0) && ltb (c .last .0) 1_152_921_504_606_846_976
 

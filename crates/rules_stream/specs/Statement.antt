@@ -1,6 +1,6 @@
--- What refusal 1 tests: on any records, words and stores, the test that the calls make (`okStream`) is that the records are laid out as
--- they should be (`formed`) and that what is seen of them keeps 01's rules (`rules`). And that calls from a fresh stream never meet it.
--- Statements only: the proofs are in proofs/Seen.antt.
+-- What refusal 1 checks: on any records, words and stores, the test that the calls run (`okStream`) is exactly that the records are laid
+-- out properly (`formed`) and that what is seen of them keeps 01's rules (`rules`). And that calls from a fresh stream never meet it.
+-- Statements only; the proofs are in proofs/Seen.antt.
 use Prim.Native.Nat.{ℕ}
 use mathlib.Core.Path.{_≡_}
 use mathlib.Core.List.{List}
@@ -24,8 +24,8 @@ RefusalOne =
     → length (l .queue) ≡ 128
     → okStream s t (l .sent) (l .held) (l .queue) ≡ (formed s (l .queue) && rules (seen s t l))
 
--- 01, refusal 1: "(never so after calls from a fresh stream)". Records that are laid out and are seen as the end after any list of calls
--- keep every rule, each a field of `KeepsRules`, and refusal 1 does not come.
+-- 01, refusal 1: "(never so after calls from a fresh stream)". Records that are properly laid out and are seen as the end after any list of
+-- calls keep every rule, each a field of `KeepsRules`, and pass the test.
 abbrev pub NeverRefused : Type 0
 NeverRefused =
     (local remote segments clock : ℕ)

@@ -1,5 +1,5 @@
 // Refusal 1: the rules of the records, in one pass over the stored packets, one over the held ones and one over the queue. No byte of a
-// store is looked at. specs/Ok.antt has the rules.
+// store is read. specs/Ok.antt has the rules.
 ghost use mathlib.Core.Path.{_≡_};
 ghost use Rattle.model.specs.Rules.{segmentsRange, rttRanges};
 ghost use Rattle.rules_stream.specs.Ok.{clocksOk, okStream};

@@ -1,7 +1,7 @@
-// Feeds records to refusal 1 and prints its answers. Standard input is a list of commands of 10 bytes: a number, an index and a value of
-// eight bytes, little-endian. tests/rules_cases.py writes the commands and, from 01's rules, the answers.
+// Checks records with refusal 1 and prints its answers. Standard input is a list of 10-byte commands: a number, an index and an eight-byte
+// value, little-endian. tests/cases/rules.py generates the commands and, from 01's rules, the expected answers.
 //
-//   0  fresh records        1  keep the records        2  the kept records again
+//   0  fresh records        1  keep the records        2  back to the kept records
 //   3  print the answer     4  print the first `index` bytes of the value
 //   16 and more: set a number of the records, a total or a word (see `put_number`, `put_word`)
 ghost use Prim.Native.Nat.{_+_, _≤_};
@@ -109,7 +109,7 @@ fn put_totals(t: Totals, field: u8, v: u64) -> Totals {
     }
 }
 
-// A number of the records.
+// Sets a number of the records.
 fn put_number(s: Stream, field: u8, v: u64) -> Stream {
     let x = (v % 4_294_967_296) as u32;
     let mut r = s;
@@ -132,7 +132,7 @@ fn put_number(s: Stream, field: u8, v: u64) -> Stream {
     r
 }
 
-// A word: 36 of `sent`, 37 of `held`, 38 of `queue`.
+// Sets a word: 36 of `sent`, 37 of `held`, 38 of `queue`.
 fn put_word(r: Records, field: u8, index: u8, v: u64) -> Records {
     let mut t = r;
     if field == 36 {
@@ -187,7 +187,7 @@ fn byte(b: u8) -> u64
     b as u64
 }
 
-// Eight bytes, the low one first.
+// Eight bytes, little-endian.
 fn value(s: &[u8]) -> u64 {
     if s.len() < 8 {
         return 0;
@@ -197,7 +197,7 @@ fn value(s: &[u8]) -> u64 {
     low + 4_294_967_296 * high
 }
 
-// One command.
+// Runs one command.
 fn step(t: Tester, clean: Records, op: u8, index: u8, operand: &[u8]) -> Tester {
     let now = t.now;
     let kept = t.kept;

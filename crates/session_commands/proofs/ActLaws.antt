@@ -1,5 +1,5 @@
--- What a command on an end leaves is the session's: its call answers as the model's on records that are laid out, and its line has the
--- model's outcome, count and bytes.
+-- A command on an end does what the session says: on records that are laid out its call answers as the model's does, and its line has
+-- the model's outcome, count and bytes.
 use Prim.Native.Nat.{ℕ, _+_, _-_, _≤_, min}
 use native.Mathlib.Omega.{arith}
 use mathlib.Core.Path.{_≡_, refl, sym, ap, _∙_, subst}
@@ -31,7 +31,7 @@ use Rattle.session_text.specs.Text.{lineOf, bytesLineOf}
 use Rattle.session_commands.specs.Acting.{KeptEnd, lined, linedRead, keptAfter}
 use Rattle.session_commands.specs.Acts.{sideOf, LaidEnd, Acts, Keeps, KeepsBatch, rekept}
 
--- a text that was put at the start of a buffer is its front
+-- a text put at the start of a buffer is its front
 pub first-of : (d d′ t : List ℕ) (r most : ℕ) → Wrote d d′ 0 r most t → take r d′ ≡ t
 first-of d d′ t r most w =
     let k : r ≡ length t = omega (arith, w .past) in
@@ -45,14 +45,14 @@ at-most buf count n e = go (leb count (length buf)) refl
     go true h = let k = leb-true count (length buf) h in let same : n - 0 ≡ count = omega arith in ap (λ (m : ℕ). take m buf) same
     go false h = let k = leb-false count (length buf) h in take-all (n - 0) buf (omega arith) ∙ sym (take-all count buf (omega arith))
 
--- the length of a part from the start
+-- the length of a part that starts at 0
 pub of-part : (buf : Bytes) (n k : ℕ) → n ≡ k → k ≤ length buf → k ≡ length (take (n - 0) buf)
 of-part buf n k e h =
     let same : n - 0 ≡ k = omega arith in
     sym (ap (λ (m : ℕ). length (take m buf)) same ∙ length-take-le k buf h)
 
 module _ (e : SessionEnd) (b : Stores) (laid : LaidEnd e b) where
-  -- its records, as the theorems over lists of calls take them
+  -- its records in the form that the theorems over lists of calls use
   abbrev x : Records
   x = record { stream = e .stream; totals = e .totals; lent = lentOf e b }
 

@@ -1,4 +1,4 @@
--- What the session says of a command, by its kind: each law takes the command apart and leaves what its arm of `act` shows.
+-- What the session says of a command, by its kind: each law reduces it to what that arm of `act` shows.
 use Prim.Native.Nat.{ℕ, _≤_, _<_}
 use mathlib.Core.Path.{_≡_, refl, sym, ap, _∙_, subst}
 use mathlib.Core.Bool.{Bool, true}
@@ -19,7 +19,7 @@ use Rattle.session_text.specs.declared.lines.Name.the-variants as name
 use Rattle.session_commands.specs.Acting.{KeptEnd, lined, linedRead, keptAfter, acted, hasDatagram, shortRead}
 use Rattle.session_commands.specs.Acts.{sideOf, LaidEnd, Acts}
 
--- `s` is what was seen of the end before the command; the end, its stores and the line are those after it
+-- `s` is what was seen of the end before the command; the end, its stores and the line are as after it
 module _ (k : Command) (s : KeptEnd) (theirs : List Bytes) (e : SessionEnd) (b : Stores) (kept : Bytes) (len : ℕ) (text : Bytes) where
   pub as-write : (number size fill : ℕ) → k ≡ command.Write number size fill
       → Acts (lined name.Write number (model.write (replicate size fill) (s .end)) (s .kept)) e b kept len text

@@ -1,4 +1,4 @@
--- What each command of a session does to the end that it is for, and its line (01, 'The session program').
+-- What each command of a session does to the end it is for, and its line (01, 'The session program').
 use Prim.Native.Nat.{ℕ}
 use mathlib.Core.Bool.{Bool, true}
 use mathlib.Core.List.{List, [], map, _++_}
@@ -17,7 +17,7 @@ use Rattle.session_text.specs.declared.lines.Name.{Name}
 use Rattle.session_text.specs.declared.lines.Name.the-variants as name
 use Rattle.session_text.specs.Text.{lineOf, bytesLineOf}
 
--- an end with the datagrams that are kept of it, the oldest first
+-- an end with its kept datagrams, oldest first
 pub record KeptEnd : Type 0 where
   pub end : End
   pub kept : List Bytes
@@ -40,7 +40,7 @@ linedRead number a kept =
 abbrev pub keptAfter : Answer → List Bytes → List Bytes
 keptAfter a kept = lastKept (kept ++ map fitted (model-out.datagramsOf (a .segment) (a .bytes)))
 
--- a command on the end that it is for; `theirs` are the datagrams kept of the other end
+-- a command on the end it is for; `theirs` are the other end's kept datagrams
 unfoldable pub acted : Command → KeptEnd → List Bytes → Acted
 acted (command.Write number size fill) s theirs = lined name.Write number (model.write (replicate size fill) (s .end)) (s .kept)
 acted (command.Drive number clock) s theirs = lined name.Drive number (model-out.drive (clock .0) (s .end)) (s .kept)
@@ -62,7 +62,7 @@ hasDatagram (command.Read number size) theirs = true
 hasDatagram (command.Close number) theirs = true
 hasDatagram command.Bad theirs = true
 
--- a script has no read of more bytes: such a one ends the run when it is parsed
+-- a read of at most 4,096 bytes, as every read of a script is: a longer one ends the run when it is parsed
 abbrev pub shortRead : Command → Bool
 shortRead (command.Write number size fill) = true
 shortRead (command.Drive number clock) = true

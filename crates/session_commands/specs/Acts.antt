@@ -1,4 +1,4 @@
--- How a command on an end's records is the session's: what is seen of the end after it, and its line.
+-- When a command on an end's records does what the session says: what is seen of the end after it, and its line.
 use Prim.Native.Nat.{ℕ}
 use mathlib.Core.Path.{_≡_}
 use mathlib.Core.Bool.{true}
@@ -15,11 +15,11 @@ use Rattle.session_ends.specs.declared.calls.Called.{Called}
 use Rattle.session_ends.specs.Calls.{Stores, lentOf, stepOf}
 use Rattle.session_commands.specs.Acting.{KeptEnd, Acted, keptAfter}
 
--- what is seen of an end: `b` are the stores lent beside it, `kept` the bytes of the datagrams kept of it
+-- what is seen of an end: `b` are the stores lent with it, `kept` the bytes of its kept datagrams
 abbrev pub sideOf : SessionEnd → Stores → Bytes → KeptEnd
 sideOf e b kept = record { end = seen (e .stream) (e .totals) (lentOf e b); kept = keptOf (e .kept) kept }
 
--- its records are laid out as they should be: they are after an open, and stay so
+-- its records are laid out: they are after an open, and stay so
 abbrev pub LaidEnd : SessionEnd → Stores → Type 0
 LaidEnd e b = laidOut (e .stream) (lentOf e b) ≡ true
 
@@ -34,7 +34,7 @@ pub record Keeps (e : SessionEnd) (b : Stores) (room : ℕ) (kept : Bytes) (r : 
   pub answers : Answers (model-out.take room) (e .stream) (e .totals) (lentOf e b) (stepOf r) (lentOf (r .end) b)
   pub keeps : LaidEnd e b → keptOf (r .end .kept) kept′ ≡ keptAfter (model-out.take room (seen (e .stream) (e .totals) (lentOf e b))) (keptOf (e .kept) kept)
 
--- what a call answered, with other datagrams kept
+-- what a call returned, with other datagrams kept
 abbrev pub rekept : Called → Kept → Called
 rekept c k =
     record {

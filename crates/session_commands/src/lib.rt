@@ -1,4 +1,4 @@
-// The commands of a session on the end that they are for: the call, and its line in a lent buffer.
+// The commands of a session on the end they are for: the call, and its line in a lent buffer.
 ghost use mathlib.Core.Path.{_≡_};
 ghost use Prim.Native.Nat.{_≤_, _<_, min};
 ghost use mathlib.Core.Bool.{true};
@@ -27,7 +27,7 @@ use session_script::Command;
 use session_text::LINE;
 use session_text::Name;
 
-// Bytes of the buffer that writes are filled in and that batches and reads are put in.
+// Size of the buffer for the bytes of writes, batches and reads.
 pub const SCRATCH: usize = 65_536;
 
 // An end after a command, and the length of the command's line.
@@ -57,7 +57,7 @@ fn fill(buf: &mut [u8], byte: u8)
     }
 }
 
-// The buffer is filled, and written.
+// Fills the buffer and writes it.
 fn write_filled(
     e: SessionEnd,
     byte: u8,
@@ -233,7 +233,7 @@ fn read(
     )
 }
 
-// One command on an end. `mine` are the bytes of the datagrams kept of it, `kept` those of the other end, which `theirs` tells of.
+// Runs one command on an end. `mine` are the bytes of its kept datagrams, `kept` those of the other end, with `theirs` as their record.
 pub fn act(
     e: SessionEnd,
     theirs: Kept,

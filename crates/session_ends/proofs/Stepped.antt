@@ -1,5 +1,5 @@
--- An end that is made of a step of `udx` and of the words that it left is that call on the end: its step and its words are those, and
--- what was kept is the end's.
+-- An end made from a step of `udx` and the words it left is the result of that call on the end: the step and the words are the call's, and
+-- the kept datagrams are the end's.
 use Prim.Native.Nat.{ℕ}
 use mathlib.Core.Path.{_≡_, refl}
 use mathlib.Core.List.{List}

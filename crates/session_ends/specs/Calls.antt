@@ -1,5 +1,5 @@
--- A call on an end is the call of crate `udx` on the end's records: its numbers, its words, and the stores that are lent beside it. What
--- the end keeps of datagrams taken stays, whatever the call.
+-- A call on an end is the call of crate `udx` on the end's records: its numbers, its words, and the stores lent with it. No call changes
+-- its kept datagrams.
 use Prim.Native.Nat.{ℕ}
 use mathlib.Core.Path.{_≡_}
 use mathlib.Core.List.{List, []}
@@ -19,7 +19,7 @@ use Rattle.session_kept.specs.Kept.{keptOf}
 use Rattle.session_ends.specs.declared.SessionEnd.{SessionEnd}
 use Rattle.session_ends.specs.declared.calls.Called.{Called}
 
--- the stores that are lent beside an end
+-- the stores lent with an end
 pub record Stores : Type 0 where
   pub outgoing : Bytes
   pub incoming : Bytes
@@ -32,7 +32,7 @@ stores outgoing incoming headers = record { outgoing = outgoing; incoming = inco
 abbrev pub lentOf : SessionEnd → Stores → Lent
 lentOf e b = lent (e .sent) (e .held) (e .queue) (b .outgoing) (b .incoming) (b .headers)
 
--- the step of `udx` in what a call on an end answers
+-- the step of `udx` in what a call on an end returns
 abbrev pub stepOf : Called → Step
 stepOf r = record { stream = r .end .stream; totals = r .end .totals; outcome = r .outcome; count = r .count; segment = r .segment }
 
@@ -62,7 +62,7 @@ pub record CallsRead (e : SessionEnd) (b : Stores) (buf : Bytes) (r : Called) (b
   pub keeps : r .end .kept ≡ e .kept
 
 -- 01, 'The session program': "opened at clock 0 with ceiling 10". Its stream and totals are those that such an open hands out, its words
--- are zeros, and no datagram is kept of it.
+-- are zeros, and it has no kept datagrams.
 pub record Fresh (local remote : ℕ) (b : Stores) (r : SessionEnd) : Type 0 where
   pub outcome : Outcome
   pub opens : Opens local remote 10 0 (b .outgoing) (b .incoming) (b .headers) (record { outcome = outcome; stream = r .stream; totals = r .totals })

@@ -10,7 +10,7 @@ use error::Outcome;
 use rtt::Nanos;
 use udx::Step;
 
-// An end after a call, and what the call answered.
+// An end after a call, and what the call returned.
 pub struct Called {
     pub end: SessionEnd,
     pub outcome: Outcome,

@@ -1,4 +1,4 @@
-// An end of a session: a stream with what the caller of its calls keeps. The stores are lent beside it.
+// An end of a session: a stream and what its caller keeps for it. The stores are lent separately.
 ghost use Rattle.session_ends.specs.Calls.{stores, Fresh};
 
 mod calls;

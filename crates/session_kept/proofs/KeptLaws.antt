@@ -1,6 +1,6 @@
--- The datagrams kept: how many they are, which one has which number, and that one more kept behind them leaves the last 32 of all.
--- It goes into the slot behind the newest one's: a free slot with fewer than 32 kept, else, round the slots, the oldest one's. The others
--- stay where they are, as numbers less than 32 apart have different slots.
+-- The datagrams kept: how many there are, which has which number, and that keeping one more leaves the last 32 of all. It goes into the
+-- slot after the newest: a free slot if fewer than 32 are kept, otherwise, as slots wrap around, the oldest's. The others stay where they
+-- are, as numbers less than 32 apart have different slots.
 use Prim.Native.Nat.{ℕ, zero, suc, _+_, _-_, _*_, _%_, _≤_, _<_, min}
 use native.Mathlib.Nat.{mul-le-mul-right, suc-mul}
 use native.Mathlib.Omega.{arith}
@@ -40,7 +40,7 @@ pub kept-get : (k : Kept) (store : Bytes) (n : ℕ) → n < length (keptOf k sto
 unfolding keptOf
 kept-get k store n h = table-get (countOf k) (numbered k store) n [] (rw (kept-length k store) at h)
 
--- the part of the store from a slot's first byte on, as long as its datagram
+-- the part of the store that starts at a slot and is as long as its datagram
 pub slot-part : (k : Kept) (store : Bytes) (i n : ℕ) → n ≡ min (getD (k .lengths) i 0) slotSize
     → take (i * slotSize + n - i * slotSize) (drop (i * slotSize) store) ≡ slotBytes k store i
 unfolding slotBytes
@@ -50,7 +50,7 @@ slot-part k store i n e =
 
 -- the last 32
 
--- of few, all
+-- all, if there are at most 32
 pub last-all : (ds : List Bytes) → length ds ≤ 32 → lastKept ds ≡ ds
 unfolding lastKept
 last-all ds h = let z : length ds - 32 ≡ 0 = omega arith in rw z refl
@@ -66,7 +66,7 @@ last-last xs ys =
     ∙ drop-drop (length (drop n (xs ++ ys)) - 32) n (xs ++ ys)
     ∙ ap (λ (m : ℕ). drop m (xs ++ ys)) e
 
--- with one more of 32 the first leaves
+-- one more after 32: the first leaves
 last-full : (x : Bytes) (xs : List Bytes) (y : Bytes) → length xs ≡ 31 → lastKept ((x ∷ xs) ++ (y ∷ [])) ≡ xs ++ (y ∷ [])
 unfolding lastKept
 last-full x xs y h = let e : length ((x ∷ xs) ++ (y ∷ [])) - 32 ≡ 1 = simp length-append (omega arith) in rw e refl
@@ -123,9 +123,9 @@ module _ (k r : Kept) (i n : ℕ) (bytes store after : Bytes) (first : r .first 
   pub put-slot : (d : Bytes) → bytes ≡ fitted d → PutInSlot k i d store r after
   put-slot d e = record { first = first; count = count; there = put-there ∙ e; others = λ j h ne. put-others j ne }
 
--- one more behind those kept
+-- one more after those kept
 
--- a table with one element more
+-- a table with one more element
 table-last : (m : ℕ) (f : ℕ → Bytes) → table (suc m) f ≡ table m f ++ (f m ∷ [])
 table-last zero f = refl
 table-last (suc m) f = ap (λ (t : List Bytes). f 0 ∷ t) (table-last m (λ i. f (suc i)))
@@ -145,7 +145,7 @@ module _ (m : ℕ) (f g : ℕ → Bytes) (x : Bytes) (new : f m ≡ x) where
       ∙ sym (last-full (g 0) (table m (λ i. g (suc i))) x (table-length m (λ i. g (suc i)) ∙ h))
 
 module _ (k p r : Kept) (d store after : Bytes) (put : PutInSlot k (slotOf k (countOf k)) d store p after) (more : OneMoreKept p r) where
-  -- of the numbers only the length of a slot matters for its bytes
+  -- of the record, a slot's bytes depend only on its length
   same-slot : (i : ℕ) → slotBytes r after i ≡ slotBytes p after i
   unfolding slotBytes
   same-slot i = ap (λ (l : List ℕ). take (min (getD l i 0) slotSize) (drop (i * slotSize) after)) (more .lengths)

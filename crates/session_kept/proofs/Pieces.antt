@@ -1,5 +1,5 @@
--- The next datagram of a batch is the front of what is left of it: a whole batch is one datagram, and of one cut into pieces the rest is
--- cut as if it stood alone, however many pieces the cut may make.
+-- The next datagram of a batch is the front of what is left of it. Without a segment size that is all of it; with one, the rest is cut as
+-- if it were a batch of its own, whatever the bound on the number of pieces.
 use Prim.Native.Nat.{ℕ, zero, suc, _-_, _≤_, _<_}
 use native.Mathlib.Omega.{arith}
 use mathlib.Core.Path.{_≡_, refl, sym, ap, ap₂, _∙_}
@@ -45,14 +45,14 @@ next-whole segment left h z = record { some-bytes = h; within = omega arith; nex
     next : (bytes : Bytes) → length bytes ≡ left → datagramsOf (segmentOf segment) bytes ≡ take left bytes ∷ datagramsOf (segmentOf segment) (drop left bytes)
     next bytes e = rw (eq-eqb segment 0 z, ← e) (whole-next bytes (omega arith))
 
--- a segment size that leaves some: that many bytes
+-- a segment size that fits in what is left: that many bytes
 pub next-cut : (segment left : ℕ) → (segment ≡ 0 → ⊥) → segment ≤ left → 0 < left → NextPiece segment left segment
 next-cut segment left nz l h = record { some-bytes = omega (arith, nz); within = l; next = next }
   where
     next : (bytes : Bytes) → length bytes ≡ left → datagramsOf (segmentOf segment) bytes ≡ take segment bytes ∷ datagramsOf (segmentOf segment) (drop segment bytes)
     next bytes e = rw (ne-eqb segment 0 nz) (cut-next segment bytes (omega (arith, nz)) (omega arith))
 
--- the last piece, shorter than the segment size
+-- the last piece, no longer than the segment size
 pub next-last : (segment left : ℕ) → (segment ≡ 0 → ⊥) → left ≤ segment → 0 < left → NextPiece segment left left
 next-last segment left nz l h = record { some-bytes = h; within = omega arith; next = next }
   where

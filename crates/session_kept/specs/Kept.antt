@@ -1,5 +1,5 @@
--- The datagrams kept of an end, "the other end's last 32 taken" (01, 04 hand), as they stand in the slots of a lent store. Every record
--- and store has a meaning: a count above 32 is 32, and slot numbers go round.
+-- An end's kept datagrams, "the other end's last 32 taken" (01, 04 hand), in the slots of a lent store. Every record and store has a
+-- meaning: a count above 32 is 32, and slot numbers wrap around.
 use Prim.Native.Nat.{ℕ, _+_, _-_, _*_, _%_, _≤_, _<_, min}
 use mathlib.Core.Path.{_≡_}
 use mathlib.Core.Logic.{_≢_}
@@ -13,8 +13,7 @@ use Rattle.model.specs.Driving.{datagramsOf}
 use Rattle.records.specs.Table.{table}
 use Rattle.session_kept.specs.declared.Kept.{Kept}
 
--- the bytes of a slot, as many as a datagram has at most. Shut, so that no proof counts them; `slot-is` in proofs/KeptLaws.antt says how
--- many they are.
+-- bytes in a slot, the most a datagram has. Opaque, so that no proof computes with it; `slot-is` in proofs/KeptLaws.antt gives its value.
 unfoldable pub slotSize : ℕ
 slotSize = 1_400
 
@@ -30,39 +29,39 @@ slotOf k n = (k .first + n) % 32
 unfoldable pub slotBytes : Kept → Bytes → ℕ → Bytes
 slotBytes k store i = take (min (getD (k .lengths) i 0) slotSize) (drop (i * slotSize) store)
 
--- the datagrams kept, the oldest first
+-- the datagrams kept, oldest first
 unfoldable pub keptOf : Kept → Bytes → List Bytes
 keptOf k store = table (countOf k) (λ n. slotBytes k store (slotOf k n))
 
--- the last 32 of all
+-- the last 32
 unfoldable pub lastKept : List Bytes → List Bytes
 lastKept ds = drop (length ds - 32) ds
 
--- a datagram as it is kept: no end hands out a longer one than a slot has room for
+-- a datagram as it is kept: no end hands out one longer than a slot
 unfoldable pub fitted : Bytes → Bytes
 fitted d = take slotSize d
 
--- a take's segment size, "where it has none" 0
+-- a take's segment size, 0 "where it has none"
 abbrev pub segmentOf : ℕ → Option ℕ
 segmentOf n = cond (eqb n 0) none (some n)
 
 -- what the steps of keeping do
 
--- of `left` bytes of a batch the first `size` are its next datagram
+-- the first `size` of a batch's `left` bytes are its next datagram
 pub record NextPiece (segment left size : ℕ) : Type 0 where
   pub some-bytes : 0 < size
   pub within : size ≤ left
   pub next : (bytes : Bytes) → length bytes ≡ left
       → datagramsOf (segmentOf segment) bytes ≡ take size bytes ∷ datagramsOf (segmentOf segment) (drop size bytes)
 
--- datagram d was put into slot i; the other slots stay
+-- datagram d was put into slot i; the other slots are unchanged
 pub record PutInSlot (k : Kept) (i : ℕ) (d : Bytes) (store : Bytes) (r : Kept) (after : Bytes) : Type 0 where
   pub first : r .first ≡ k .first
   pub count : r .count ≡ k .count
   pub there : slotBytes r after i ≡ fitted d
   pub others : (j : ℕ) → j < 32 → j ≢ i → slotBytes r after j ≡ slotBytes k store j
 
--- the slot behind the newest counts too; with 32 kept the oldest leaves
+-- the slot after the newest counts too; with 32 kept the oldest leaves
 pub record OneMoreKept (k r : Kept) : Type 0 where
   pub lengths : r .lengths ≡ k .lengths
   pub room : countOf k < 32 → (r .first ≡ k .first) × (r .count ≡ countOf k + 1)

@@ -1,5 +1,5 @@
-// The last 32 datagrams taken of an end, in slots of 1,400 bytes: the oldest in slot `first`, each later one in the slot behind it, and
-// slot 0 is behind slot 31.
+// The last 32 datagrams taken from an end, in slots of 1,400 bytes: the oldest is in slot `first`, each later one in the next slot, and
+// slot 0 follows slot 31.
 ghost use mathlib.Core.Path.{_≡_};
 ghost use mathlib.Core.List.{[], _∷_, _++_, map};
 ghost use Prim.Native.Nat.{_≤_, _<_};
@@ -10,13 +10,13 @@ ghost use Rattle.model.specs.Driving.{datagramsOf};
 ghost use Rattle.session_kept.specs.Kept.{countOf, slotOf, slotBytes, keptOf, lastKept, fitted, segmentOf, NextPiece, PutInSlot, OneMoreKept};
 use records::least;
 
-// Bytes of the store that they stand in, 32 slots.
+// Bytes in their store, 32 slots.
 pub const KEPT_STORE: usize = 44_800;
 
 const SLOT: usize = 1_400;
 
 pub struct Kept {
-    // The slot of the oldest one.
+    // The slot of the oldest.
     pub first: u16,
     // How many there are, at most 32.
     pub count: u16,
@@ -73,7 +73,7 @@ pub fn datagram(k: Kept, number: u16, kept: &[u8; KEPT_STORE]) -> &[u8]
     in_slot(k, slot(k, number), kept)
 }
 
-// A datagram in place of what a slot had.
+// Puts a datagram into a slot in place of what it had.
 fn put_in(k: Kept, i: usize, datagram: &[u8], kept: &mut [u8]) -> Kept
     requires { ⌜ (i < 32) × (44_800 ≤ length (now kept)) ⌝ }
     ensures { λ r. ⌜ PutInSlot k i (now (datagram .entry)) (now (kept .entry)) r (now (kept .exit)) ⌝ }
@@ -85,7 +85,7 @@ fn put_in(k: Kept, i: usize, datagram: &[u8], kept: &mut [u8]) -> Kept
     r
 }
 
-// The slot behind the newest one counted too; with 32 kept it was the oldest one's.
+// Counts the slot after the newest too; with 32 kept it was the oldest's.
 fn one_more(k: Kept) -> Kept
     ensures { λ r. ⌜ OneMoreKept k r ⌝ }
 {
@@ -100,7 +100,7 @@ fn one_more(k: Kept) -> Kept
     r
 }
 
-// A datagram behind the newest one; with 32 kept it takes the place of the oldest.
+// Keeps a datagram after the newest; with 32 kept it replaces the oldest.
 fn keep_one(k: Kept, datagram: &[u8], kept: &mut [u8]) -> Kept
     requires { ⌜ 44_800 ≤ length (now kept) ⌝ }
     ensures { λ r. ⌜ keptOf r (now (kept .exit)) ≡ lastKept
@@ -111,7 +111,7 @@ fn keep_one(k: Kept, datagram: &[u8], kept: &mut [u8]) -> Kept
     one_more(put_in(k, i, datagram, kept))
 }
 
-// The length of the next datagram of a batch of which some bytes are left.
+// The length of the next datagram of a batch with some bytes left.
 fn piece(segment: usize, left: usize) -> usize
     requires { ⌜ 0 < left ⌝ }
     ensures { λ r. ⌜ NextPiece segment left r ⌝ }
@@ -122,7 +122,7 @@ fn piece(segment: usize, left: usize) -> usize
     if segment < left { segment } else { left }
 }
 
-// The datagrams of a batch, one after the other.
+// Keeps the datagrams of a batch, one after another.
 fn keep_all(k: Kept, batch: &[u8], segment: usize, kept: &mut [u8]) -> Kept
     requires { ⌜ 44_800 ≤ length (now kept) ⌝ }
     ensures { λ r. ⌜ keptOf r (now (kept .exit)) ≡ lastKept

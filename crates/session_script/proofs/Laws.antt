@@ -1,4 +1,4 @@
--- The command at the front of a script, for each way in which `parse` ends.
+-- The command at the front of a script, for each way `parse` returns.
 use Prim.Native.Nat.{ℕ, _+_, _≤_, _<_}
 use mathlib.Core.Path.{_≡_, sym, _∙_}
 use mathlib.Core.List.{List}

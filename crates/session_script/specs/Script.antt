@@ -23,7 +23,7 @@ widthOf c =
     (cond (eqb c 6) (Known 1)
     Unknown)))))
 
--- "operands little-endian": the numbers of two, four and eight bytes at a place, where a byte that is not there is 0
+-- "operands little-endian": the two-, four- and eight-byte numbers at a place; a missing byte is 0
 abbrev pub u16At : List ℕ → ℕ → ℕ
 u16At s i = getD s i 0 + 256 * getD s (i + 1) 0
 
@@ -37,7 +37,7 @@ u64At s i = u32At s i + 4294967296 * u32At s (i + 4)
 abbrev pub readOf : ℕ → ℕ → Command
 readOf end n = cond (ltb 4096 n) Bad (Read end n)
 
--- the command with byte c for an end, at the front of s, all of whose operands are there
+-- the command with byte c for an end, at the front of s, which has all its operands
 unfoldable pub operandsOf : ℕ → ℕ → List ℕ → Command
 operandsOf c end s =
     cond (eqb c 1) (Write end (u16At s 2) (getD s 4 0))
@@ -60,11 +60,11 @@ parsedWith (Known w) c end s =
     (cond (ltb 1 end) (endsRun s)
     (record { command = operandsOf c end s; size = w + 1 }))
 
--- the command at the front of what is left of a script
+-- the command at the front of the rest of a script
 unfoldable pub parsedOf : List ℕ → Parsed
 parsedOf s = parsedWith (widthOf (getD s 0 0)) (getD s 0 0) (getD s 1 0) s
 
--- what a loop over a script asks beside the command: it goes on, and not past the end
+-- what a loop over a script needs besides the command: it advances, and not past the end
 pub record Parses (s : List ℕ) (r : Parsed) : Type 0 where
   pub is : r ≡ parsedOf s
   pub within : r .size ≤ length s

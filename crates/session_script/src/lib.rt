@@ -1,5 +1,5 @@
-// The commands of a session script: a command byte, then its operands, little-endian. Places count from the command byte. A byte that is
-// not there reads as 0, so that reading asks nothing of the caller.
+// The commands of a session script: a command byte, then its operands, little-endian. Places count from the command byte. A missing byte
+// reads as 0, so callers need not check the length.
 ghost use mathlib.Core.Path.{_≡_};
 ghost use Prim.Native.Nat.{_+_, _*_, _≤_};
 ghost use lib.ListN.{getD};
@@ -12,7 +12,7 @@ pub enum Width {
     Unknown,
 }
 
-// One command, its operands read.
+// One command with its operands.
 pub enum Command {
     Write { end: u8, length: u16, fill: u8 },
     Drive { end: u8, clock: Nanos },
@@ -20,11 +20,11 @@ pub enum Command {
     Hand { end: u8, number: u16, clock: Nanos },
     Read { end: u8, length: u16 },
     Close { end: u8 },
-    // It ends the run.
+    // Ends the run.
     Bad,
 }
 
-// A command and how many bytes of the script it takes: all that are left where it ends the run.
+// A command and how many bytes of the script it takes; where it ends the run, `stop` of session_turn skips the rest.
 pub struct Parsed {
     pub command: Command,
     pub size: usize,
@@ -97,21 +97,21 @@ fn le64(s: &[u8], i: usize) -> u64
     eight(low, high)
 }
 
-// The number of two bytes at a place of a command.
+// The two-byte number at a place in a command.
 pub fn u16_at(s: &[u8], place: u8) -> u16
     ensures { λ r. ⌜ r ≡ u16At (now (s .entry)) place ⌝ }
 {
     le16(s, place as usize)
 }
 
-// The number of four bytes.
+// The four-byte number.
 pub fn u32_at(s: &[u8], place: u8) -> u32
     ensures { λ r. ⌜ r ≡ u32At (now (s .entry)) place ⌝ }
 {
     le32(s, place as usize)
 }
 
-// The number of eight bytes.
+// The eight-byte number.
 pub fn u64_at(s: &[u8], place: u8) -> u64
     ensures { λ r. ⌜ r ≡ u64At (now (s .entry)) place ⌝ }
 {
@@ -128,7 +128,7 @@ fn read_command(end: u8, size: u16) -> Command
     Command::Read { end, length: size }
 }
 
-// The command with this byte, for this end, at the front of s, which has all of its operands.
+// The command with this byte, for this end, at the front of s, which has all its operands.
 fn operands(command: u8, end: u8, s: &[u8]) -> Command
     ensures { λ r. ⌜ r ≡ operandsOf command end (now (s .entry)) ⌝ }
 {
@@ -155,7 +155,7 @@ fn operands(command: u8, end: u8, s: &[u8]) -> Command
     }
 }
 
-// The command at the front of what is left of a script. A short operand and an end above 1 end the run too.
+// The command at the front of the rest of a script. A short operand or an end above 1 ends the run too.
 pub fn parse(s: &[u8]) -> Parsed
     ensures { λ r. ⌜ Parses (now (s .entry)) r ⌝ }
 {

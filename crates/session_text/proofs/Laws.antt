@@ -1,4 +1,4 @@
--- The laws of `decimalTo`.
+-- The laws of `decimalTo` and `hexOf`.
 use Prim.Native.Nat.{ℕ, zero, suc, _+_, _-_, _*_, _/_, _%_, _≤_, _<_}
 use mathlib.Core.Path.{_≡_, refl, sym, ap, _∙_}
 use mathlib.Core.Bool.{Bool, true, false, cond}
@@ -34,12 +34,12 @@ few (suc f) n =
     either (ltb n 10) _ _ (suc f + 1) (omega arith)
     (omega (arith, few f (n / 10), length-append (decimalTo f (n / 10)) ((48 + n % 10) ∷ [])))
 
--- the number is one digit
+-- a one-digit number
 pub one-digit : (d : List ℕ) (at f n : ℕ) → decimalTo f n ≡ (48 + n % 10) ∷ [] → at < length d
     → (at + 1 ≡ at + length (decimalTo f n)) × (set d at (48 + n % 10) ≡ put d at (decimalTo f n))
 one-digit d at f n e h = rw e (refl, put-one d at (48 + n % 10) h)
 
--- where the last digit goes
+-- there is room for the last digit
 pub room : (d : List ℕ) (at f n k : ℕ) (d′ : List ℕ) → (f ≡ 0 → ⊥) → at + f < length d → k ≡ at + length (decimalTo (f - 1) (n / 10)) → d′ ≡ put d at (decimalTo (f - 1) (n / 10)) → k < length d′
 room d at f n k d′ p h ek ed =
     omega (arith, few (f - 1) (n / 10), ap length ed ∙ length-put d at (decimalTo (f - 1) (n / 10)) (omega (arith, few (f - 1) (n / 10))))
@@ -64,7 +64,7 @@ pub hex-length : (a : List ℕ) → length (hexOf a) ≡ 2 * length a
 hex-length [] = refl
 hex-length (x ∷ a) = omega (arith, hex-length a)
 
--- one byte more
+-- one more byte
 pub hex-more : (d : List ℕ) (at : ℕ) (bytes : List ℕ) (i to : ℕ) (d′ : List ℕ) → i < length bytes → at + 2 * length bytes ≤ length d → to ≡ at + 2 * i → d′ ≡ put d at (hexOf (take i bytes)) → length d′ ≡ length d
     → set (set d′ to (digit (getD bytes i 0 / 16))) (to + 1) (digit (getD bytes i 0 % 16)) ≡ put d at (hexOf (take (i + 1) bytes))
 hex-more d at bytes i to d′ h room et ed el =

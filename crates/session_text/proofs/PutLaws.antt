@@ -1,4 +1,4 @@
--- The laws of `put`: what several writes into one buffer come to.
+-- The laws of `put`: how several writes into one buffer combine.
 use Prim.Native.Nat.{ℕ, suc, _+_, _≤_, _<_}
 use mathlib.Core.Path.{_≡_, refl, sym, ap, _∙_}
 use mathlib.Core.List.{List, [], _∷_, _++_, append-assoc}
@@ -41,11 +41,11 @@ then {d} {d₁} {d₂} {at} {k} {r} {m} {n} {a} {b} h v w = record {
   room = omega (arith, v .room, w .room);
 }
 
--- what `copy_in` ensures, with a bound on the text
+-- what `put_word` ensures, with a bound on the text
 pub wrote : {d d′ : List ℕ} {at r m : ℕ} {t : List ℕ} → (r ≡ at + length t) × (d′ ≡ put d at t) → length t ≤ m → Wrote d d′ at r m t
 wrote e h = record { past = e .0; bytes = e .1; room = omega (arith, e .0) }
 
--- a bound that is larger
+-- a larger bound
 pub at-most : {d d′ : List ℕ} {at r m n : ℕ} {t : List ℕ} → Wrote d d′ at r m t → m ≤ n → Wrote d d′ at r n t
 at-most w h = record { past = w .past; bytes = w .bytes; room = omega (arith, w .room) }
 

@@ -10,12 +10,12 @@ use Rattle.error.specs.Answers.{numberOf}
 use Rattle.session_text.specs.declared.lines.Name.{Name}
 use Rattle.session_text.specs.declared.lines.Name.the-variants.{Write, Drive, Take, Hand, Read, Close, Script}
 
--- n in decimal, of which at most the last f + 1 digits are written
+-- n in decimal, at most its last f + 1 digits
 abbrev pub decimalTo : ℕ → ℕ → List ℕ
 decimalTo zero n = (48 + n % 10) ∷ []
 decimalTo (suc f) n = cond (ltb n 10) ((48 + n % 10) ∷ []) (decimalTo f (n / 10) ++ ((48 + n % 10) ∷ []))
 
--- "Offsets, counts and refusals print in decimal": numbers below 2 ^ 64, which have 20 digits at most
+-- "Offsets, counts and refusals print in decimal": numbers below 2 ^ 64, which have at most 20 digits
 abbrev pub decimalOf : ℕ → List ℕ
 decimalOf n = decimalTo 19 n
 

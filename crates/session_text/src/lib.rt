@@ -1,4 +1,4 @@
-// The lines of a session, put piece by piece into a buffer. Each piece is put at a place and answers the place past it.
+// The lines of a session, put piece by piece into a buffer. Each function puts its piece at a place and returns the place past it.
 mod lines;
 mod pieces;
 

@@ -1,4 +1,4 @@
-// Whole lines of a session, from the start of a buffer.
+// Whole lines of a session, put at the start of a buffer.
 ghost use mathlib.Core.Path.{_≡_};
 ghost use Prim.Native.Nat.{_+_, _*_, _<_, _≤_};
 ghost use lib.ListN.{length};
@@ -12,7 +12,7 @@ use crate::pieces::put_space;
 use crate::pieces::put_word;
 use error::Outcome;
 
-// Bytes of a line's buffer: the longest line is a read of 4,096 bytes.
+// Bytes in a line's buffer: the longest line is that of a 4,096-byte read.
 pub const LINE: usize = 8_400;
 
 // The name of a command, or the word before the offset of a script that ends early.

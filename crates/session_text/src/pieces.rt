@@ -7,7 +7,7 @@ ghost use Rattle.session_text.specs.Text.{decimalTo, decimalOf, hexOf, b
 ghost use Rattle.session_text.specs.Text.{digit as Text·digit};
 use error::Outcome;
 
-// A word as it stands.
+// A word, byte for byte.
 pub fn put_word(out: &mut [u8], at: usize, word: &[u8]) -> usize
     requires { ⌜ at + length (now word) ≤ length (now out) ⌝ }
     ensures { λ r. ⌜ (r ≡ at + length (now (word .entry))) ×
@@ -21,7 +21,7 @@ pub fn put_word(out: &mut [u8], at: usize, word: &[u8]) -> usize
     at + i
 }
 
-// The last f + 1 digits of n in decimal, or all of them where there are fewer.
+// The last f + 1 digits of n in decimal, or all of them if there are fewer.
 fn put_digits(out: &mut [u8], at: usize, n: u64, f: usize) -> usize
     requires { ⌜ at + f < length (now out) ⌝ }
     ensures { λ r. ⌜ (r ≡ at + length (decimalTo f n)) × (now (out .exit) ≡ put (now (out .entry)) at (decimalTo f n)) ⌝ }
@@ -73,7 +73,7 @@ fn put_hex(out: &mut [u8], at: usize, bytes: &[u8]) -> usize
     to
 }
 
-// Bytes in hexadecimal, or `-` where there are none.
+// Bytes in hexadecimal, or `-` if there are none.
 pub fn put_bytes(out: &mut [u8], at: usize, bytes: &[u8]) -> usize
     requires { ⌜ at + 2 * length (now bytes) < length (now out) ⌝ }
     ensures { λ r. ⌜ Wrote (now (out .entry)) (now (out .exit)) at r (2 * length (now (bytes .entry)) + 1)
@@ -117,7 +117,7 @@ pub fn put_end(out: &mut [u8], at: usize) -> usize
     at + 1
 }
 
-// What stands after a command's name: end, outcome and count, each after a space.
+// What follows a command's name: end, outcome and count, each after a space.
 pub fn put_answer(out: &mut [u8], at: usize, end: u8, outcome: Outcome, count: u64) -> usize
     requires { ⌜ at + 63 ≤ length (now out) ⌝ }
     ensures { λ r. ⌜ Wrote (now (out .entry)) (now (out .exit)) at r 63 (answerOf end outcome count) ⌝ }

@@ -1,4 +1,4 @@
--- 01's example session, computed: every definition on its way is opened.
+-- 01's example session, computed by unfolding every definition it uses.
 use mathlib.Core.Path.{refl}
 use Rattle.packet.specs.Header.{headerBytes}
 use Rattle.rtt.specs.Estimate.{sampled}

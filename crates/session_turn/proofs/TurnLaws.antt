@@ -1,4 +1,4 @@
--- One turn of the code is the session's: the command that is parsed is run on the end that it is for, or the run ends.
+-- One turn of the code is the session's: the parsed command runs on the end it is for, or the run ends.
 use Prim.Native.Nat.{ℕ, _+_, _-_, _≤_, _<_}
 use native.Mathlib.Omega.{arith}
 use mathlib.Core.Path.{_≡_, refl, sym, ap, _∙_, subst}
@@ -24,7 +24,7 @@ use Rattle.session_turn.specs.Session.{endOf, isFor, Played, onZero, onO
 use Rattle.session_turn.specs.Turned.{Parsed, SessionLends, sidesOf, Plays}
 use Rattle.session_turn.proofs.ShortReads.{short-parsed}
 
--- what is left of a script, as a part of it
+-- the rest of a script, as a part of it
 pub rest : (l : Bytes) (at : ℕ) → take (length l - at) (drop at l) ≡ drop at l
 rest l at = let n = length-drop at l in take-all (length l - at) (drop at l) (omega arith)
 

@@ -1,5 +1,5 @@
--- A whole session prints what the definition says: by induction over the turns. Each goes on by a byte at least, so the definition's
--- count covers them; the ends that `open_ends` hands out are laid out and are seen as the model's fresh ones.
+-- A whole session prints what the definition says: by induction over the turns. Each advances by at least one byte, so the definition's
+-- count covers them; the ends that `open_ends` hands out are laid out and seen as the model's fresh ones.
 use Prim.Native.Nat.{ℕ, zero, suc, _+_, _≤_, _<_}
 use native.Mathlib.Omega.{arith}
 use mathlib.Core.Path.{_≡_, refl, sym, ap, ap₂, _∙_}
@@ -54,7 +54,7 @@ module _ (script : Bytes) where
       let rest = runs ts k (t .turn .next) (t .turn .ends) (t .lends) more (p .laid-zero) (p .laid-one) (r .1 .1) in
       rw (p .line, rest, p .next, p .sides) (sym (one-turn k at s inside))
 
--- the ends that are handed out
+-- the ends handed out
 
 module _ (local remote : ℕ) (b : Stores) (e : SessionEnd) (f : Fresh local remote b e) (fits : StoreLengths b) where
   open-ready : openWhy 10 0 (b .outgoing) (b .incoming) (b .headers) ≡ none

@@ -1,5 +1,5 @@
 -- The session of 01 as a function of its script: what each command does to the two ends, and what is printed. `turn` is one command,
--- `session` a whole script; what a command does to the end that it is for is `acted` (session_commands/specs/Acting.antt).
+-- `session` a whole script; what a command does to the end it is for is `acted` (session_commands/specs/Acting.antt).
 use Prim.Native.Nat.{ℕ, zero, suc, _+_}
 use mathlib.Core.Bool.{Bool, cond, _&&_}
 use mathlib.Core.List.{List, [], _++_}
@@ -26,7 +26,7 @@ openedSides = record { zero = opened 1 2; one = opened 2 1 }
 
 -- one command
 
--- the end that a command is for, 0 or 1; one that ends the run is for none
+-- the end that a command is for, 0 or 1; one that ends the run is for neither
 abbrev pub endOf : Command → ℕ
 endOf (command.Write number size fill) = number
 endOf (command.Drive number clock) = number
@@ -36,7 +36,7 @@ endOf (command.Read number size) = number
 endOf (command.Close number) = number
 endOf command.Bad = 2
 
--- it is for this end, and if it is a hand its datagram is kept of the other one
+-- it is for this end and, if it is a hand, its datagram is one of the other end's kept ones
 abbrev pub isFor : ℕ → Command → List Bytes → Bool
 isFor number c theirs = eqb (endOf c) number && hasDatagram c theirs
 
@@ -62,18 +62,18 @@ playedWith c w size next at =
     (cond (isFor 1 c (w .zero .kept)) (onOne w next (acted c (w .one) (w .zero .kept)))
     (stopped w size at))
 
--- the command at `at`, which is in the script
+-- the command at `at`, a place in the script
 unfoldable pub turn : Bytes → ℕ → Sides → Played
 turn script at w = playedWith (parsedOf (drop at script) .command) w (length script) (at + parsedOf (drop at script) .size) at
 
 -- a whole script
 
--- what is printed from `at` on. Every turn goes on, so there are no more turns than bytes left: the first argument.
+-- what is printed from `at` on. Every turn advances, so there are at most as many turns as bytes left: the first argument.
 abbrev pub printedFrom : ℕ → Bytes → ℕ → Sides → List ℕ
 printedFrom zero script at w = []
 printedFrom (suc k) script at w =
     cond (ltb at (length script)) (turn script at w .line ++ printedFrom k script (turn script at w .next) (turn script at w .sides)) []
 
--- "It reads at most 65,536 bytes from standard input": what a session prints of its input
+-- "It reads at most 65,536 bytes from standard input": what a session prints for its input
 unfoldable pub session : Bytes → List ℕ
 session input = printedFrom (length (take 65_536 input)) (take 65_536 input) 0 openedSides

@@ -1,4 +1,4 @@
--- What one turn of the code is: the session's, on what is seen of the ends.
+-- One turn of the code is the session's, on what is seen of the ends.
 use Prim.Native.Nat.{ℕ, _+_, _<_, _≤_}
 use mathlib.Core.Path.{_≡_}
 use lib.ListN.{length, take, drop}
@@ -11,7 +11,7 @@ use Rattle.session_turn.specs.declared.running.Placed.{Placed}
 use Rattle.session_turn.specs.declared.running.Turn.{Turn}
 use Rattle.session_turn.specs.Session.{Sides, Played}
 
--- what a loop over a script asks: of a script of `size` bytes, a turn at `at` ends past it and not past the script, and its line fits
+-- what a loop over a script needs: in a script of `size` bytes, a turn at `at` ends past `at` but not past the script, and its line fits
 pub record Turned (size at : ℕ) (r : Turn) : Type 0 where
   pub on : at < size → at < r .next
   pub within : r .next ≤ size
@@ -24,7 +24,7 @@ pub record Parsed (script : Bytes) (at : ℕ) (r : Placed) : Type 0 where
   pub on : at < r .next
   pub within : r .next ≤ length script
 
--- what is lent beside both ends: the stores of each, and the bytes of the datagrams kept of it
+-- what is lent with both ends: the stores of each, and the bytes of its kept datagrams
 pub record SessionLends : Type 0 where
   pub zero : Stores
   pub kept-zero : Bytes

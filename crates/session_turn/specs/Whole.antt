@@ -1,6 +1,6 @@
--- A whole session: the turns of a script, one after another from two fresh ends, print what the definition says (`session`). What is
+-- A whole session: the turns of a script, one after another from two fresh ends, print what the definition says (`session`). All that is
 -- known of a turn is the contract of `run_one`, and of the ends that of `open_ends`, word for word (proofs/Contracts.antt). The statement
--- is `WholeSession`, at the bottom; the proof is proofs/Whole.antt.
+-- is `WholeSession`, at the bottom; the proof is in proofs/Whole.antt.
 use Prim.Native.Nat.{ℕ, _≤_, _<_}
 use mathlib.Core.Path.{_≡_}
 use mathlib.Core.Bool.{false}
@@ -15,13 +15,13 @@ use Rattle.session_turn.specs.declared.running.Turn.{Turn}
 use Rattle.session_turn.specs.Session.{turn, session}
 use Rattle.session_turn.specs.Turned.{Turned, SessionLends, sidesOf, Plays}
 
--- a turn that was made: what `run_one` handed back, what was lent beside the ends after it, and the line's buffer
+-- a turn that was made: what `run_one` returned, what is lent with the ends after it, and the line's buffer
 pub record MadeTurn : Type 0 where
   pub turn : Turn
   pub lends : SessionLends
   pub text : Bytes
 
--- the contract of `run_one`, of a turn at `at`: it goes on within the script, and it is the session's
+-- the contract of `run_one` for a turn at `at`: it advances within the script, and it is the session's
 abbrev pub TurnGoesOn : Bytes → ℕ → MadeTurn → Type 0
 TurnGoesOn script at t = Turned (length script) at (t .turn)
 
@@ -33,7 +33,7 @@ pub record MakesTurn (script : Bytes) (at : ℕ) (w : Ends) (d : SessionLends) (
   pub turned : TurnGoesOn script at t
   pub plays : IsTurn script at w d t
 
--- turns from a place up to the script's end, each on what the last one left
+-- turns from a place to the script's end, each on what the last one left
 abbrev pub RunsFrom : Bytes → ℕ → Ends → SessionLends → List MadeTurn → Type 0
 RunsFrom script at w d [] = length script ≤ at
 RunsFrom script at w d (t ∷ ts) =
@@ -48,7 +48,7 @@ printedBy (t ∷ ts) = take (t .turn .len) (t .text) ++ printedBy ts
 abbrev pub StoreLengths : Stores → Type 0
 StoreLengths b = storesTest (b .outgoing) (b .incoming) (b .headers) ≡ false
 
--- the contract of `open_ends`, whatever is lent for datagrams to keep: "ends 0 (id 1) and 1 (id 2), opened at clock 0 with ceiling 10"
+-- the contract of `open_ends`, whatever is lent for kept datagrams: "ends 0 (id 1) and 1 (id 2), opened at clock 0 with ceiling 10"
 pub record OpenedEnds (w : Ends) (b₀ b₁ : Stores) : Type 0 where
   pub zero : Fresh 1 2 b₀ (w .zero)
   pub one : Fresh 2 1 b₁ (w .one)

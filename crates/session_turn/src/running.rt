@@ -26,14 +26,14 @@ pub struct Ends {
     pub one: SessionEnd,
 }
 
-// The ends after a command, where the next one starts (the script's end where the run ends), and the length of the command's line.
+// The ends after a command, where the next one starts (the script's end if the run ends), and the length of the command's line.
 pub struct Turn {
     pub ends: Ends,
     pub next: usize,
     pub len: usize,
 }
 
-// The end that a command is for, and 2 where it ends the run.
+// The end that a command is for, or 2 if it ends the run.
 fn end_of(command: Command) -> u8
     ensures { λ r. ⌜ r ≡ endOf command ⌝ }
 {
@@ -79,7 +79,7 @@ fn has_datagram(command: Command, theirs: Kept) -> bool
     }
 }
 
-// It is for this end, and can be run there.
+// Whether the command is for this end and can run there.
 fn is_for(number: u8, command: Command, theirs: Kept) -> bool
     ensures { λ r. ⌜ ((store : _) → r ≡ isFor number command (keptOf theirs store)) ⌝ }
 {
@@ -88,7 +88,7 @@ fn is_for(number: u8, command: Command, theirs: Kept) -> bool
     both(same, there)
 }
 
-// The command at a place of a script, and where the next one starts.
+// The command at a place in a script, and where the next one starts.
 struct Placed {
     command: Command,
     next: usize,
@@ -106,7 +106,7 @@ fn command_at(script: &[u8], at: usize) -> Placed
     }
 }
 
-// The run ends at the command at `at`.
+// Ends the run at the command at `at`.
 pub fn stop(ends: Ends, size: usize, at: usize, line: &mut [u8; LINE]) -> Turn
     ensures { λ r. ⌜ (r .ends ≡ ends) ×
         ((r .next ≡ size) × Wrote (now (line .entry)) (now (line .exit)) 0 (r .len) 28 (scriptLineOf at)) ⌝ }
@@ -119,7 +119,7 @@ pub fn stop(ends: Ends, size: usize, at: usize, line: &mut [u8; LINE]) -> Turn
     }
 }
 
-// The command at `at`. Past the script's end nothing happens and the line is empty.
+// Runs the command at `at`. Past the script's end nothing happens and the line is empty.
 pub fn run_one(
     ends: Ends,
     script: &[u8],

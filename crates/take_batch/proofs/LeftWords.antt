@@ -1,5 +1,5 @@
--- The words of the entries left to take: which word of the queue is the one of entry i, what entry i is in the model, and how many
--- state packets come before it, which gives a state packet's place in the header store.
+-- The words of the entries left to take: which word of the queue is entry i's, what entry i is in the model, and how many state packets
+-- come before it, which gives a state packet's place in the header store.
 use Prim.Native.Nat.{ℕ, suc, _+_, _-_, _≤_, _<_}
 use native.Mathlib.Omega.{arith}
 use mathlib.Core.Path.{_≡_, refl, ap, sym, _∙_}
@@ -54,7 +54,7 @@ module _ (ws : List ℕ) (i : ℕ) (h : i < length ws) where
   states-next =
       ap stateWords (take-suc ws i 0 h) ∙ words-append (take i ws) (getD ws i 0 ∷ []) ∙ ap (λ (k : ℕ). stateWords (take i ws) + k) (one-word (getD ws i 0))
 
-  -- those before a state packet are not all
+  -- there are fewer state packets before a state packet than in all
   pub states-less : entryOf (getD ws i 0) .state ≡ true → stateWords (take i ws) < stateWords ws
   states-less e =
       let w = getD ws i 0 in

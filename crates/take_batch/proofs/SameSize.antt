@@ -1,5 +1,5 @@
--- The size of the next batch, counted over the queue's words: how many words in a row say an entry of one size (`sameFrom`). The count
--- goes up by one with each such word, and it is the model's `batch` of what is seen.
+-- The size of the next batch, counted over the queue's words: how many words in a row are entries of one size (`sameFrom`). The count goes
+-- up by one with each such word, and it is the model's `batch` of what is seen.
 use Prim.Native.Nat.{ℕ, zero, suc, _+_, _-_, _≤_, _<_, min}
 use native.Mathlib.Omega.{arith}
 use mathlib.Core.Path.{_≡_, refl, ap, ap₂, sym, _∙_}
@@ -22,11 +22,11 @@ use Rattle.records.proofs.Cut.{cut-length}
 use Rattle.records.proofs.SeenQueue.{left-length}
 use Rattle.take_batch.specs.Batch.{entrySize, Batched, Heads}
 
--- the size that the word at a place says
+-- the size of the entry in the word at a place
 abbrev sizeAt : List ℕ → ℕ → ℕ
 sizeAt words i = entrySize (entryOf (getD words i 0))
 
--- how many of the m words from i on say the size l, up to the first that does not
+-- how many of the m words from i on have size l, up to the first that does not
 unfoldable pub sameFrom : List ℕ → (m l i : ℕ) → ℕ
 sameFrom words zero l i = 0
 sameFrom words (suc m) l i = cond (eqb (sizeAt words i) l) (suc (sameFrom words m l (suc i))) 0
@@ -46,7 +46,7 @@ unfolding sameFrom
 same-stop words zero l i ne = refl
 same-stop words (suc m) l i ne = rw (ne-eqb (sizeAt words i) l ne) refl
 
--- the loop: k words are counted, and the count of all is k and what is still to count
+-- the loop: k words are counted, and the total is k plus what is still to count
 
 pub same-start : (words : List ℕ) (m l : ℕ) → sameFrom words m l 0 ≡ 0 + sameFrom words (m - 0) l 0
 same-start words m l =
@@ -73,7 +73,7 @@ module _ (words : List ℕ) (m l all k : ℕ) (e : all ≡ k + sameFrom words (m
 
 -- the entries that are seen
 
--- an entry has the size that its word says
+-- an entry has the size of its word
 first-size : (headers : Bytes) (place w : ℕ) (ws : List ℕ) → headLength (seenEntries headers place (w ∷ ws)) ≡ entrySize (entryOf w)
 first-size headers place w ws = go (entryOf w .state) refl
   where

@@ -1,5 +1,5 @@
--- What the functions of this crate promise: how many entries the next batch has, and the first one's length. Each promise speaks of the
--- end of the model that is seen of the records (`seen`), for any stream that has the numbers and words which the function is given.
+-- What this crate's functions promise: how many entries the next batch has, and the first one's length. Each promise is about the model's
+-- end that is seen of the records (`seen`), for any stream with the numbers and words that the function is given.
 use Prim.Native.Nat.{ℕ, _≤_}
 use mathlib.Core.Path.{_≡_}
 use mathlib.Core.List.{List}
@@ -14,11 +14,11 @@ use Rattle.records.specs.declared.Totals.{Totals}
 use Rattle.records.specs.Cut.{cut, headerSlot}
 use Rattle.records.specs.Seen.{Lent, seen}
 
--- the bytes of an entry's datagram, a state packet being a header
+-- the size of an entry's datagram; a state packet is a bare header
 abbrev pub entrySize : Entry → ℕ
 entrySize x = cond (x .state) 20 (x .length)
 
--- what an entry is in the model, a state packet's bytes being at `place` of the header store
+-- an entry in the model; a state packet's bytes are at `place` in the header store
 abbrev pub entrySeen : Bytes → ℕ → Entry → model.Entry
 entrySeen headers place x = cond (x .state) (model.state (cut headerSlot headers place 20)) (model.packet (x .number) (x .length))
 

@@ -11,7 +11,7 @@ use records::Queue;
 use records::least;
 use records::word_count;
 
-// The bytes of an entry's datagram; a state packet is a header.
+// The size of an entry's datagram; a state packet is a bare header.
 fn entry_size(x: Entry) -> u32
     ensures { λ r. ⌜ r ≡ entrySize x ⌝ }
 {
@@ -31,7 +31,7 @@ pub fn left_entry(q: Queue, queue: &[u64; 128], i: u32) -> Entry
     records::get_entry(queue, (first + i) as usize)
 }
 
-// How many entries the next batch has: those of the first one's length in a row, at most the ceiling and at most what is left.
+// How many entries the next batch has: the run of entries of the first one's length, at most the ceiling and at most what is left.
 pub fn batch(q: Queue, segments: u8, queue: &[u64; 128]) -> u32
     requires { ⌜ (q .left ≤ q .count) × (q .count ≤ 128) × (1 ≤ q .left) ⌝ }
     ensures { λ r. ⌜ Batched q segments (now (queue .entry)) r ⌝ }

@@ -1,5 +1,5 @@
--- One entry is taken: the bytes that the code copies out of a store are the datagram that the model shows, and the words after the mark
--- are the model's store with that packet marked. A packet is there where its number is of the window and its slot has it.
+-- Taking one entry: the bytes that the code copies out of a store are the datagram that the model shows, and the words after the mark are
+-- the model's store with that packet marked. A packet is there if its number is in the window and its slot holds it.
 use Prim.Native.Nat.{ℕ, suc, _+_, _*_, _%_, _^_, _≤_, _<_}
 use native.Mathlib.Omega.{arith}
 use mathlib.Core.Path.{_≡_, refl, ap, sym, _∙_}
@@ -27,7 +27,7 @@ use Rattle.records.proofs.SeenOutgoing.{get-outgoing, get-settled, get-unsent, 
 use Rattle.take_entry.specs.declared.Progress.{Progress}
 use Rattle.take_entry.specs.Transmit.{TransmitBounds, takenPacket, sendEntry, storeSeen, isThere, PutInBuffer, CanTakeEntry, TakesState, TakesPacket, TakesEntry}
 
--- a part of a store is at most as long as was asked for
+-- a part of a store is at most as long as requested
 pub part-short : (k : ℕ) (part store : List ℕ) → part ≡ take k store → length part ≤ k
 part-short k part store e = rw e (simp length-take (omega arith))
 
@@ -45,7 +45,7 @@ packet-bytes outgoing i k e l h =
 -- a packet is there
 
 module _ (s : Sender) (sent : List ℕ) (outgoing : Bytes) (n : ℕ) where
-  -- the packet in the slot of n, as it is seen
+  -- the packet seen in the slot of n
   abbrev pub slotSeen : model.Packet
   slotSeen = packetOf outgoing (n % ceiling) (sentIn sent (n % ceiling))
 
@@ -59,7 +59,7 @@ module _ (s : Sender) (sent : List ℕ) (outgoing : Bytes) (n : ℕ) where
       go true p false q = get-unsent (s .«remote_acked») (s .seq) sent outgoing n (ltb-false n (s .seq) q)
       go false p b q = get-settled (s .«remote_acked») (s .seq) sent outgoing n (leb-false (s .«remote_acked») n p)
 
-  -- the code's test of what it read from the slot
+  -- the code's test on what it read from the slot
   pub test-there : (p : Sent) (r : Bool) → p ≡ sentIn sent (n % ceiling) → r ≡ (leb (s .«remote_acked») n && (ltb n (s .seq) && isStored p n)) → isThere s sent n ≡ r
   test-there p r e t = sym (t ∙ rw e refl)
 
@@ -76,7 +76,7 @@ module _ (s : Sender) (sent : List ℕ) (outgoing : Bytes) (n : ℕ) where
     pub there-stored : isStored (sentIn sent (n % ceiling)) n ≡ true
     there-stored = and-right (ltb n (s .seq)) (isStored (sentIn sent (n % ceiling)) n) rest
 
-    -- the words after its mark are the store in which it is marked
+    -- the words after marking it are seen as the store with it marked
     pub mark-there : (clock : ℕ) → length sent ≡ 64 → TransmitBounds (sentIn sent (n % ceiling)) 30 → n < 2 ^ 32 → clock < 2 ^ 60
         → storeSeen s (withSent sent n (takenPacket (sentIn sent (n % ceiling)) clock)) outgoing ≡ insert (storeSeen s sent outgoing) n (marked (takenMarks clock) slotSeen)
     mark-there clock long within fits early =

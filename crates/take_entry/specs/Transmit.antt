@@ -53,21 +53,21 @@ sendEntry clock (model.packet n l) s =
     on (get s n) (record { datagrams = []; outgoing = s })
     (λ p. record { datagrams = p .bytes ∷ []; outgoing = insert s n (marked (takenMarks clock) p) })
 
--- what is stored, seen
+-- what is seen of the outgoing store
 abbrev pub storeSeen : Sender → List ℕ → Bytes → Slots model.Packet
 storeSeen s sent outgoing = seenOutgoing (s .«remote_acked») (s .seq) sent outgoing
 
--- the datagrams stand one after another in the buffer from `at` to `end`, the bytes past them stay, and the packets are marked
+-- the datagrams are one after another in the buffer from `at` to `end`, the bytes past them are unchanged, and the packets are marked
 pub record PutInBuffer (t : TakenFromStore) (at : ℕ) (buf : Bytes) (end : ℕ) (buf′ : Bytes) (marked : Slots model.Packet) : Type 0 where
   pub bytes : buf′ ≡ put buf at (joined (t .datagrams))
   pub count : end ≡ at + length (joined (t .datagrams))
   pub marks : marked ≡ t .outgoing
 
--- packet n is stored, of the numbers and in its slot
+-- packet n is stored: n is from remote acked to below seq, and its slot holds it
 abbrev pub isThere : Sender → List ℕ → ℕ → Bool
 isThere s sent n = leb (s .«remote_acked») n && (ltb n (s .seq) && isStored (sentIn sent (n % ceiling)) n)
 
--- what taking one entry needs: its packet keeps the rules but for the marks of this take, and its bytes have room
+-- what taking one entry needs: its packet keeps the rules apart from the marks of this take, and there is room for its bytes
 pub record CanTakeEntry (s : Sender) (x : Entry) (clock : ℕ) (p : Progress) (sent : List ℕ) (outgoing headers buf : Bytes) : Type 0 where
   pub words : length sent ≡ 64
   pub packet : isThere s sent (x .number) ≡ true → TransmitBounds (sentIn sent (x .number % ceiling)) 30

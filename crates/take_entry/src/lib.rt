@@ -1,4 +1,4 @@
-// One entry of a batch is taken: its bytes, and its packet's mark (to_transmit, for one packet).
+// Taking one entry of a batch: its bytes, and its packet's mark (to_transmit, for one packet).
 ghost use mathlib.Core.Path.{_≡_};
 ghost use mathlib.Core.Bool.{_&&_};
 ghost use Prim.Native.Nat.{_+_, _<_, _≤_};
@@ -12,7 +12,7 @@ use records::Sender;
 use records::Sent;
 use rtt::Nanos;
 
-// How far a batch is put.
+// How much of a batch has been put.
 pub struct Progress {
     // Bytes put.
     pub at: usize,
@@ -20,7 +20,7 @@ pub struct Progress {
     pub place: u32,
 }
 
-// Packet n is stored, with p in its slot.
+// Whether packet n is stored; p is what its slot holds.
 pub fn there(s: Sender, p: Sent, n: u32) -> bool
     ensures { λ r. ⌜ r ≡ (leb (s .«remote_acked») n && (ltb n (s .seq) && isStored p n)) ⌝ }
 {
@@ -32,7 +32,7 @@ pub fn there(s: Sender, p: Sent, n: u32) -> bool
     false
 }
 
-// The socket driver's mark: time sent is the clock of the drive, and one transmit more.
+// The socket driver's mark: the time sent is the drive's clock, and there is one more transmit.
 fn taken_packet(p: Sent, drive: Nanos) -> Sent
     requires { ⌜ p .transmits ≤ 30 ⌝ }
     ensures { λ r. ⌜ r ≡ takenPacket p (drive .0) ⌝ }
@@ -47,7 +47,7 @@ fn taken_packet(p: Sent, drive: Nanos) -> Sent
     }
 }
 
-// A state packet's bytes, which stand at the next place of the header store.
+// Puts a state packet's bytes, which are at the next place in the header store.
 fn take_state(p: Progress, headers: &[u8], buf: &mut [u8]) -> Progress
     requires { ⌜ (length (now headers) ≡ 1_280) × (p .place < 64) × (p .at + 1_400 ≤ length (now buf)) ⌝ }
     ensures { λ r. ⌜ TakesState p (now (headers .entry)) (now (buf .entry)) r (now (buf .exit)) ⌝ }
@@ -60,7 +60,7 @@ fn take_state(p: Progress, headers: &[u8], buf: &mut [u8]) -> Progress
     }
 }
 
-// A stored packet's bytes, and its mark.
+// Puts a stored packet's bytes, and marks it.
 fn take_packet(
     p: Progress,
     packet: Sent,
@@ -84,7 +84,7 @@ fn take_packet(
     }
 }
 
-// One entry is taken: its bytes stand at p.at. A packet that has left the store counts and writes nothing, so the next bytes stand there.
+// Takes one entry: its bytes go to p.at. A packet that has left the store counts but writes nothing, so the next bytes go there.
 pub fn transmit(
     s: Sender,
     x: Entry,

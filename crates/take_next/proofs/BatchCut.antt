@@ -56,7 +56,7 @@ there-same s s′ h (packet n l ∷ q) = go (get s n) (get s′ n) (h n) (there-
     go (some p) none e r = absurd (no-some refl (sym e))
     go (some p) (some p′) e r = ap₂ _∷_ (let b : p .bytes ≡ p′ .bytes = cc in b) r
 
--- the datagrams that are taken are those that are there
+-- the datagrams taken are those that are there
 
 sent-there : (clock k : ℕ) (q : List Entry) (s : Slots Packet) → length s ≡ ceiling → sendLoop clock k q s .datagrams ≡ thereOf s (take k q)
 unfolding sendLoop sendEntry
@@ -100,7 +100,7 @@ filled : (s : Slots Packet) (x : Entry) → EntrySized s x → 0 < entryLength x
 filled s (state b) h = omega arith
 filled s (packet n l) h = let a = h .0 in omega arith
 
--- one entry's datagram, where it is there, has its length
+-- an entry's datagram, if it is there, has the entry's length
 one-length : (s : Slots Packet) (l : ℕ) (x : Entry) (q : List Entry) → EntrySized s x → entryLength x ≡ l → All (λ d. length d ≡ l) (thereOf s q) → All (λ d. length d ≡ l) (thereOf s (x ∷ q))
 one-length s l (state b) q h e a = (e, a)
 one-length s l (packet n m) q h e a = go (get s n) refl

@@ -1,5 +1,5 @@
--- The search for the next datagram: while every entry passed is of a packet that has left, the first there of all entries is the first
--- there of the rest, and no state packet was passed. What the search answers stands in a store at the bytes that are shown.
+-- The search for the next datagram: while the packets of all entries passed have left, the first entry there of all is the first there of
+-- the rest, and no state packet was passed. The search's answer is where the bytes shown are in their store.
 use Prim.Native.Nat.{ℕ, _+_, _*_, _%_, _≤_, _<_}
 use native.Mathlib.Omega.{arith}
 use native.Mathlib.Numerals.{add-one}
@@ -27,7 +27,7 @@ use Rattle.take_next.specs.Take.{AllTransmitBounds, TakeRules, nextSeen,
 use Rattle.take_batch.proofs.LeftWords.{entry-at, states-next, states-less}
 use Rattle.take_entry.proofs.TakeOne.{state-bytes, packet-bytes, get-there, there-low, there-high, there-stored}
 
--- what stands behind the first of some entries
+-- the entries after entry i
 drop-next : (i : ℕ) (q : List model.Entry) (x : model.Entry) (rest : List model.Entry) → drop i q ≡ x ∷ rest → drop (i + 1) q ≡ rest
 drop-next i q x rest e = sym (drop-drop 1 i q) ∙ ap (drop 1) e
 
@@ -85,7 +85,7 @@ module _ (q : Queue) (s : Sender) (sent queue : List ℕ) where
           let b = g .long in
           omega (arith, left-length q queue (omega arith) (f .left) (omega arith))
 
-      -- what is shown is the first there of the rest
+      -- what is shown is the first entry there of the rest
       shows : (outgoing headers shown : Bytes) → firstThere (storeSeen s sent outgoing) (drop i (entries headers)) ≡ shown → shown ≡ nextSeen q s sent queue outgoing headers
       shows outgoing headers shown e = sym (some-left outgoing headers (omega arith) ∙ sym (g .passed outgoing headers) ∙ e)
 

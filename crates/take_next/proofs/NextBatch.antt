@@ -1,4 +1,4 @@
--- The next batch: `Batched` says that the model's has as many entries, so what is put, its count, its segment size and the queue after it
+-- The next batch: by `Batched` it has as many entries as the model's, so what is put, its count, its segment size and the queue after it
 -- are the model's.
 use Prim.Native.Nat.{ℕ}
 use native.Mathlib.Omega.{arith}

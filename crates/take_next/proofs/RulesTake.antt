@@ -1,6 +1,5 @@
--- What the functions of this crate need is what 01's rules give: records whose end keeps the rules, laid out as they should be, with
--- stores of the right lengths, are `TakeRules`, and with an entry left to take
--- the next batch can be taken where the buffer has 14,000 bytes.
+-- 01's rules give what this crate's functions need: records that keep them, are properly laid out and have stores of the right lengths
+-- satisfy `TakeRules`, and with an entry left to take and a buffer of 14,000 bytes the next batch can be taken.
 use Prim.Native.Nat.{ℕ, zero, suc, _%_, _^_, _≤_, _<_}
 use native.Mathlib.Omega.{arith}
 use mathlib.Core.Path.{_≡_, refl, _∙_}
@@ -25,7 +24,7 @@ use Rattle.records.proofs.Cut.{cut-length}
 use Rattle.records.proofs.SeenOutgoing.{get-outgoing}
 use Rattle.take_next.specs.Take.{Lends, AllTransmitBounds, TakeRules, Sendable}
 
--- a stream has its own numbers and words
+-- a stream lends its own numbers and words
 pub own-lends : (st : Stream) (l : Lent) → Lends st l (st .queue) (st .sender) (l .sent) (l .queue) (l .outgoing) (l .headers)
 own-lends st l = record { counts = refl; sender = refl; packets = refl; words = refl; store = refl; heads = refl }
 
@@ -56,7 +55,7 @@ rules-read e h =
       entries = and-left (every (entryTest (s .outgoing)) (e .queue .entries)) _ h₉;
     }
 
--- a test of every slot, at one of them
+-- a test of every slot holds at each of them
 slot-test : {A : Type 0} (f : ℕ → ℕ → A → Bool) (s : Slots A) → everySlot f s ≡ true → (i : ℕ) (x : Numbered A) → getD s i none ≡ some x → f i (x .number) (x .value) ≡ true
 slot-test f [] h i x e = absurd (no-some refl e)
 slot-test f (none ∷ s) h zero x e = absurd (no-some refl e)

@@ -37,7 +37,7 @@ withOutgoing o e =
 abbrev takenWith : List model.Entry → TakenFromStore → model.End → Taken
 takenWith q r e = record { datagrams = r .datagrams; end = withEntries q (withOutgoing (r .outgoing) e) }
 
--- an entry of a packet that is there or has left
+-- the entry of a packet that is there or has left
 abbrev takenEntry : ℕ → model.End → Option model.Packet → Taken
 takenEntry n e o =
     on o (record { datagrams = []; end = e })
@@ -103,7 +103,7 @@ module _ (q : Queue) (s : Sender) (k clock : ℕ) (sent queue : List ℕ) (outgo
   abbrev sends : TakenFromStore
   sends = sendLoop clock k (seenQueue q queue headers .entries) (storeSeen s sent outgoing)
 
-  -- the queue and the store alone differ
+  -- only the queue and the store differ
   took : (st : Stream) (t : Totals) (l : Lent) → Lends st l q s sent queue outgoing headers → st .clocks .drive .0 ≡ clock
       → PutInBuffer sends 0 buf (p .at) buf′ (storeSeen s sent′ outgoing)
       → seenQueue (takenQueue q k (p .place)) queue headers ≡ record { entries = drop k (seenQueue q queue headers .entries); left = q .left - k }

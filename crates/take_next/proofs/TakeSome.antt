@@ -1,5 +1,5 @@
--- Some entries are taken, one after another: what the loop has put and marked after i of them is `sendLoop` of the first i, and one
--- more turn is one more `sendEntry` at its end. Marks keep a packet's bytes and add a transmit, so ten of them stay within a word.
+-- Taking entries one after another: what the loop has put and marked after i of them is `sendLoop` of the first i, and one more iteration
+-- is one more `sendEntry` at its end. Marks keep a packet's bytes and add a transmit, so ten of them still fit a word.
 use Prim.Native.Nat.{ℕ, zero, suc, _+_, _*_, _%_, _≤_, _<_}
 use native.Mathlib.Omega.{arith}
 use native.Mathlib.Numerals.{add-one}
@@ -33,7 +33,7 @@ use Rattle.take_next.specs.Take.{AllTransmitBounds, sendLoop, CanTake}
 use Rattle.take_batch.proofs.LeftWords.{entry-at, states-next, states-less}
 use Rattle.take_entry.proofs.TakeOne.{slotSeen, get-there, there-low, there-high, there-stored, written-none}
 
--- one entry more
+-- one more entry
 
 abbrev then : TakenFromStore → TakenFromStore → TakenFromStore
 then r t = record { datagrams = r .datagrams ++ t .datagrams; outgoing = t .outgoing }
@@ -53,7 +53,7 @@ send-next clock (suc i) (y ∷ q) x rest s e =
     ap (λ (z : TakenFromStore). then t z) (send-next clock i q x rest (t .outgoing) e)
     ∙ ap (λ (d : List Bytes). record { datagrams = d; outgoing = u .outgoing }) (sym (append-assoc (t .datagrams) (r .datagrams) (u .datagrams)))
 
--- the next datagram is put behind the others
+-- the next datagram is put after the others
 written-then : (r t : TakenFromStore) (buf₀ : Bytes) (at : ℕ) (buf : Bytes) (end : ℕ) (buf′ : Bytes) (store store′ : Slots model.Packet)
     → PutInBuffer r 0 buf₀ at buf store → PutInBuffer t at buf end buf′ store′ → end ≤ length buf₀ → PutInBuffer (then r t) 0 buf₀ end buf′ store′
 written-then r t buf₀ at buf end buf′ store store′ w v h =
@@ -71,7 +71,7 @@ written-then r t buf₀ at buf end buf′ store store′ w v h =
 
 -- lengths and transmits
 
--- the stored packets keep the rules but for the marks of this take
+-- the stored packets keep the rules apart from the marks of this take
 abbrev pub StoreWithin : Slots model.Packet → ℕ → Type 0
 StoreWithin s m = (n : ℕ) (p : model.Packet) → get s n ≡ some p → (length (p .bytes) ≤ 1_400) × (p .marks .transmits ≤ m)
 
@@ -87,7 +87,7 @@ within-start s sent outgoing m h n p e = go (isThere s sent n) refl (sym (get-th
 within-more : (s : Slots model.Packet) (m : ℕ) → StoreWithin s m → StoreWithin s (suc m)
 within-more s m h n p e = let w = h n p e in let a = w .0 in let b = w .1 in (a, omega arith)
 
--- an entry of a packet that is there or has left
+-- the entry of a packet that is there or has left
 abbrev pub sentEntry : ℕ → ℕ → Slots model.Packet → Option model.Packet → TakenFromStore
 sentEntry clock n s o = on o (record { datagrams = []; outgoing = s }) (λ p. record { datagrams = p .bytes ∷ []; outgoing = insert s n (marked (takenMarks clock) p) })
 

@@ -1,5 +1,5 @@
--- What a batch is to the one who sends it: cut at its segment size, or taken whole where it has none, it is the datagrams of its entries
--- whose packets are there, in order, and `look` shows the first of them. Claims over the model alone; proofs/BatchCut.antt has them.
+-- What the caller sends of a batch: cut at its segment size, or taken whole if it has none, it is the datagrams of its entries whose
+-- packets are there, in order, and `look` shows the first of them. Claims over the model alone, proved in proofs/BatchCut.antt.
 use Prim.Native.Nat.{_<_}
 use mathlib.Core.Path.{_≡_}
 use mathlib.Core.List.{List, [], _∷_}
@@ -25,7 +25,7 @@ abbrev pub firstOf : List Bytes → Bytes
 firstOf [] = []
 firstOf (d ∷ ds) = d
 
--- the next batch of an end
+-- the datagrams of an end's next batch
 abbrev pub batchTaken : End → List Bytes
 batchTaken e = takeLoop (batch e) (e .queue .entries) e .datagrams
 
@@ -37,10 +37,10 @@ pub record Batches (e : End) : Type 0 where
   pub next : look e ≡ firstOf (thereOf (e .sender .outgoing) (e .queue .entries))
   pub first : (d : Bytes) (ds : List Bytes) → batchTaken e ≡ d ∷ ds → look e ≡ d
 
--- of every end with 32 slots that keeps the rules, while entries are left to take
+-- for every end with 32 slots that keeps the rules, while entries are left to take
 abbrev pub BatchesCut : Type 0
 BatchesCut = (e : End) → rules e ≡ true → length (e .sender .outgoing) ≡ ceiling → 0 < e .queue .left → Batches e
 
--- and so of all records that keep them
+-- and so for all records that keep them
 abbrev pub RecordsCut : Type 0
 RecordsCut = (st : Stream) (t : Totals) (l : Lent) → rules (seen st t l) ≡ true → 0 < st .queue .left → Batches (seen st t l)

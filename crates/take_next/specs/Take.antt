@@ -1,6 +1,6 @@
--- What the functions of this crate promise: what taking entries puts into the buffer and marks in the records, the queue after it, and the
--- next datagram. Each promise speaks of the end of the model that is seen of the records (`seen`), for any stream that has the numbers,
--- words and stores which the function is given.
+-- What this crate's functions promise: what taking entries puts into the buffer and marks in the records, the queue after it, and the next
+-- datagram. Each promise is about the model's end that is seen of the records (`seen`), for any stream with the numbers, words and stores
+-- that the function is given.
 use Prim.Native.Nat.{ℕ, zero, suc, _+_, _-_, _%_, _^_, _≤_, _<_}
 use mathlib.Core.Path.{_≡_}
 use mathlib.Core.List.{List, [], _∷_, _++_}
@@ -36,12 +36,12 @@ pub record Lends (st : Stream) (l : Lent) (q : Queue) (s : Sender) (sent queue :
   pub store : l .outgoing ≡ outgoing
   pub heads : l .headers ≡ headers
 
--- every stored packet is within these bounds, from remote acked to below seq
+-- every stored packet, from remote acked to below seq, is within these bounds
 abbrev pub AllTransmitBounds : Sender → List ℕ → ℕ → Type 0
 AllTransmitBounds s sent transmits =
     (n : ℕ) → s .«remote_acked» ≤ n → n < s .seq → isStored (sentIn sent (n % ceiling)) n ≡ true → TransmitBounds (sentIn sent (n % ceiling)) transmits
 
--- the records keep the rules as far as they are read here; 01: "32 slots of 1,400 bytes", "64 queued state packets of 20 bytes"
+-- the records keep the rules, as far as they are read here; 01: "32 slots of 1,400 bytes", "64 queued state packets of 20 bytes"
 pub record TakeRules (q : Queue) (s : Sender) (sent queue : List ℕ) (outgoing headers : Bytes) : Type 0 where
   pub formed : QueueFormed q queue
   pub stored : AllTransmitBounds s sent 7
@@ -59,14 +59,13 @@ sendLoop clock (suc k) (x ∷ q) s =
     let r = sendLoop clock k q (t .outgoing) in
     record { datagrams = t .datagrams ++ r .datagrams; outgoing = r .outgoing }
 
--- the queue without its first k entries, `place` being that of the next state packet; with the last one taken it is empty, and the
--- places start again
+-- the queue without its first k entries; `place` is the next state packet's. After the last entry it is empty, and the places start again.
 abbrev pub takenQueue : Queue → (k place : ℕ) → Queue
 takenQueue q k place =
     cond (eqb (q .left - k) 0) (record { count = 0; left = 0; states = 0; gone = 0 })
     (record { count = q .count; left = q .left - k; states = q .states; gone = place })
 
--- the records after a take: another queue and other words of the stored packets
+-- the records after a take: another queue, and other words for the stored packets
 abbrev pub takenStream : Queue → Stream → Stream
 takenStream q st =
     record {
@@ -82,7 +81,7 @@ takenStream q st =
 abbrev pub takenLent : List ℕ → Lent → Lent
 takenLent sent l = record { sent = sent; held = l .held; queue = l .queue; outgoing = l .outgoing; incoming = l .incoming; headers = l .headers }
 
--- what a take of k entries needs: 01's rules, refusal 2 and that they are left to take
+-- what taking k entries needs: 01's rules, a buffer that passes refusal 2, and that they are left to take
 pub record CanTake (q : Queue) (s : Sender) (k clock : ℕ) (sent queue : List ℕ) (outgoing headers buf : Bytes) : Type 0 where
   pub kept : TakeRules q s sent queue outgoing headers
   pub some : 1 ≤ q .left
@@ -91,7 +90,7 @@ pub record CanTake (q : Queue) (s : Sender) (k clock : ℕ) (sent queue : List �
   pub drive : clock < 2 ^ 60
   pub room : 14_000 ≤ length buf
 
--- 01, call 5, of the first k entries of an end e, which is e′ then: the bytes, their count and the end are the model's
+-- 01, call 5, for the first k entries of an end e, which becomes e′: the bytes, their count and the end are the model's
 pub record Took (k : ℕ) (e e′ : model.End) (buf : Bytes) (at : ℕ) (buf′ : Bytes) : Type 0 where
   pub bytes : buf′ ≡ put buf 0 (joined (takeLoop k (e .queue .entries) e .datagrams))
   pub count : at ≡ length (joined (takeLoop k (e .queue .entries) e .datagrams))
@@ -105,14 +104,14 @@ pub record Takes (q : Queue) (s : Sender) (k clock : ℕ) (sent queue : List ℕ
   pub took : (st : Stream) (t : Totals) (l : Lent) → Lends st l q s sent queue outgoing headers → st .clocks .drive .0 ≡ clock
       → Took k (seen st t l) (seen (takenStream (takenQueue q k (r .place)) st) t (takenLent sent′ l)) buf (r .at) buf′
 
--- the queue stays laid out as it was
+-- the queue stays properly laid out
 pub record TakesQueue (q : Queue) (k place : ℕ) (r : Queue) : Type 0 where
   pub queue : r ≡ takenQueue q k place
   pub formed : (queue : List ℕ) → QueueFormed q queue → place ≡ q .gone + stateWords (take k (entryWords q queue)) → QueueFormed r queue
 
 -- next_batch
 
--- what taking the next batch needs: 01's rules, refusal 2 and an entry left to take
+-- what taking the next batch needs: 01's rules, a buffer that passes refusal 2, and an entry left to take
 pub record Sendable (q : Queue) (s : Sender) (segments clock : ℕ) (sent queue : List ℕ) (outgoing headers buf : Bytes) : Type 0 where
   pub kept : TakeRules q s sent queue outgoing headers
   pub some : 1 ≤ q .left
@@ -124,12 +123,12 @@ pub record Sendable (q : Queue) (s : Sender) (segments clock : ℕ) (sent queue 
 abbrev pub segmentSize : (entries size : ℕ) → ℕ
 segmentSize entries size = cond (eqb entries 1) 0 size
 
--- the next batch of an end e, which is e′ then: what is put, its count, its segment size and the end are the model's
+-- the next batch of an end e, which becomes e′: what is put, its count, its segment size and the end are the model's
 pub record HandedOut (e e′ : model.End) (buf : Bytes) (count segment : ℕ) (buf′ : Bytes) : Type 0 where
   pub took : Took (batch e) e e′ buf count buf′
   pub size : segment ≡ segmentSize (batch e) (headLength (e .queue .entries))
 
--- 01, call 5: "the next batch .., with segment size unless it has one entry"; the queue stays laid out as it was
+-- 01, call 5: "the next batch .., with segment size unless it has one entry"; the queue stays properly laid out
 pub record HandsOut (q : Queue) (s : Sender) (segments clock : ℕ) (sent queue : List ℕ) (outgoing headers buf : Bytes) (r : Handed)
     (sent′ : List ℕ) (buf′ : Bytes) : Type 0 where
   pub hands : (st : Stream) (t : Totals) (l : Lent) → Lends st l q s sent queue outgoing headers → st .ids .segments ≡ segments → st .clocks .drive .0 ≡ clock
@@ -143,7 +142,7 @@ pub record HandsOut (q : Queue) (s : Sender) (segments clock : ℕ) (sent queue 
 abbrev pub nextSeen : Queue → Sender → List ℕ → List ℕ → Bytes → Bytes → Bytes
 nextSeen q s sent queue outgoing headers = cond (ltb 0 (q .left)) (firstThere (storeSeen s sent outgoing) (seenQueue q queue headers .entries)) []
 
--- the bytes of what the search answers
+-- the bytes of the search's answer
 abbrev pub nextBytes : Bytes → Bytes → Next → Bytes
 nextBytes outgoing headers x =
     cond (x .state) (cut headerSlot headers (x .number) 20) (cut outgoingSlot outgoing (x .number % ceiling) (x .length))

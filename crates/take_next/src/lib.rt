@@ -1,5 +1,5 @@
-// Taking: the entries of the next batch one after another, their bytes with the mark that the socket driver gives (to_transmit), and the
-// next datagram.
+// Taking the entries of the next batch, one after another: their bytes, with the mark that the socket driver gives (to_transmit); and look,
+// the next datagram.
 ghost use mathlib.Core.Path.{_≡_};
 ghost use Prim.Native.Nat.{_≤_};
 ghost use lib.ListN.{length};
@@ -19,8 +19,8 @@ use take_entry::transmit;
 
 // the next batch
 
-// The first k entries left to take, one after another: after i of them p.at is past their bytes, and each packet has a mark for each of
-// its entries. The rest of the buffer stays.
+// Takes the first k entries left to take, one after another: after i of them p.at is past their bytes, and each packet has a mark for each
+// of its entries. The rest of the buffer is unchanged.
 fn to_transmit(
     q: Queue,
     s: Sender,
@@ -51,8 +51,8 @@ fn to_transmit(
     p
 }
 
-// The queue without its first k entries; `place` is that of the next state packet. With the last entry taken it is empty, and words and
-// places are used from the start again.
+// The queue without its first k entries; `place` is that of the next state packet. After the last entry it is empty, and words and places
+// are used from the start again.
 fn taken_queue(q: Queue, k: u32, place: u32) -> Queue
     requires { ⌜ k ≤ q .left ⌝ }
     ensures { λ r. ⌜ TakesQueue q k place r ⌝ }
@@ -74,11 +74,11 @@ fn taken_queue(q: Queue, k: u32, place: u32) -> Queue
     }
 }
 
-// A batch that is handed out.
+// A batch handed out.
 pub struct Handed {
     // The queue without it.
     pub queue: Queue,
-    // Its bytes, which stand at the front of the buffer.
+    // The number of its bytes, which are at the front of the buffer.
     pub count: usize,
     // Its segment size, 0 where it has none.
     pub segment: usize,
@@ -121,15 +121,15 @@ pub fn next_batch(
 
 // look
 
-// Where a datagram stands: at place `number` of the header store, or in the slot of packet `number`, with `length` bytes; 0 for none.
+// Where a datagram is: at place `number` of the header store, or in the slot of packet `number`, with `length` bytes; 0 for none.
 struct Next {
     state: bool,
     number: u32,
     length: u32,
 }
 
-// The first entry left to take whose packet is there. A state packet always is, so the search passes none, and the first one's place is
-// that of the first one queued.
+// The first entry left to take whose packet is there. A state packet always is, so the search passes none, and finds the first one queued,
+// whose place is `gone`.
 fn next_entry(q: Queue, s: Sender, sent: &[u64; 64], queue: &[u64; 128]) -> Next
     requires { ⌜ QueueFormed q (now queue) × AllTransmitBounds s (now sent) 7 ⌝ }
     ensures { λ r. ⌜ Finds q s (now (sent .entry)) (now (queue .entry)) r ⌝ }
@@ -162,7 +162,7 @@ fn next_entry(q: Queue, s: Sender, sent: &[u64; 64], queue: &[u64; 128]) -> Next
     }
 }
 
-// The next datagram, as a part of the store that it stands in; the empty part &outgoing[..0] where none is left.
+// The next datagram, as a part of the store that holds it; the empty part &outgoing[..0] if none is left.
 pub fn look_next<'a>(
     q: Queue,
     s: Sender,

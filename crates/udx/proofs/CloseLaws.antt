@@ -1,6 +1,6 @@
 -- A close on the records answers as the model's. Its refusals are the same: the number of state packets queued is the number of places
--- used, since none is gone while nothing is left to take. One that is not refused has a place for its state packet, and ends the stream
--- as `terminate` does.
+-- used, since none is gone while nothing is left to take. A close that is not refused has a place for its state packet, and is the model's
+-- `terminate` on what is seen.
 use Prim.Native.Nat.{ℕ, _<_}
 use native.Mathlib.Omega.{arith}
 use mathlib.Core.Path.{_≡_, refl, sym, ap, _∙_, subst}
@@ -38,7 +38,7 @@ use Rattle.udx.proofs.RefusalLaws.{line, clear-line, refusal-one, is-re
 use Rattle.udx.proofs.Resting.{ready}
 use Rattle.udx.proofs.Unbroken.{Whole, unbroken, still-laid, places-used}
 
--- refusals 6 and 13 look at two numbers of the queue; the second matters only where the first is 0
+-- refusals 6 and 13 test two numbers of the queue; the second matters only if the first is 0
 last-lines : (left k n : ℕ) → (left ≡ 0 → k ≡ n)
     → cond (ltb 0 left) (verdict.Refused refusal.BatchesLeft) (cond (leb 63 k) (verdict.Refused refusal.StateQueueFull) verdict.Clear)
     ≡ verdictOf (cond (ltb 0 left) (some refusal.BatchesLeft) (cond (leb 63 n) (some refusal.StateQueueFull) none))
@@ -63,7 +63,7 @@ module _ (s : Stream) (t : Totals) (l : Lent) (len : length (l .queue) ≡ 128) 
       cond (s .ending .ended) (some refusal.AfterDone)
       (cond (ltb 0 (s .queue .left)) (some refusal.BatchesLeft) (cond (leb 63 queued) (some refusal.StateQueueFull) none))
 
-  -- they count where refusal 1 does not come
+  -- they matter only if refusal 1 does not apply
   later : (b : Bool) → brokenRecords s t l ≡ b → closeVerdict b s ≡ cond b (verdict.Refused refusal.BrokenRecords) (verdictOf laterWhy)
   unfolding closeVerdict
   later true e = refl
@@ -99,7 +99,7 @@ module _ (s : Stream) (t : Totals) (l : Lent) (len : length (l .queue) ≡ 128) 
   whole : Whole s t l
   whole = unbroken s t l len (tests .0)
 
-  -- a queue at rest has at most 32 packets beside its state packets
+  -- a queue at rest has at most 32 packets besides its state packets
   pub close-able : Pushable (s .queue) (length (l .headers))
   close-able =
       let r = ready s t l len whole (tests .1) in

@@ -1,5 +1,5 @@
--- A delivery on the records answers as the model's. Its refusals are the model's list cut in three: those of a drive, the header, and
--- those that look at it. One that none stops is `handleIncoming` on what is seen.
+-- A delivery on the records answers as the model's. Its refusals are the model's list cut in three: those of a drive, a bad header, and
+-- those that need the header. If none applies, it is `handleIncoming` on what is seen.
 use Prim.Native.Nat.{ℕ, _+_, _-_, _^_, _≤_, _<_}
 use native.Mathlib.Omega.{arith}
 use mathlib.Core.Path.{_≡_, refl, sym, ap, ap₂, _∙_, subst}
@@ -48,7 +48,7 @@ use Rattle.udx.proofs.Unbroken.{Whole, unbroken, still-laid, places-use
 and-false : (a b : Bool) → a ≡ true → (a && b) ≡ false → b ≡ false
 and-false a b e f = rw e at f
 
--- a list of refusals, then another one
+-- the refusal of one list, else that of another
 abbrev orElse : Option Refusal → Option Refusal → Option Refusal
 orElse none o = o
 orElse (some why) o = some why
@@ -67,11 +67,11 @@ full-line : (k n : ℕ) → k ≡ n
     → cond (leb 62 k) (verdict.Refused refusal.StateQueueFull) verdict.Clear ≡ verdictOf (cond (leb 62 n) (some refusal.StateQueueFull) none)
 full-line k n e = rw e (line (leb 62 n) refusal.StateQueueFull verdict.Clear none refl)
 
--- what follows the header, as a part of the datagram
+-- the payload is all that follows the header
 pub rest-of : (datagram : Bytes) → take (length datagram - 20) (drop 20 datagram) ≡ drop 20 datagram
 rest-of datagram = take-all (length datagram - 20) (drop 20 datagram) (rw length-drop (omega arith))
 
--- what the header of a datagram is refused with (8 to 13)
+-- the refusal for a datagram's header (8 to 13), if any
 abbrev headerWhy : Header → (payload : ℕ) → End → Option Refusal
 headerWhy h payload e =
     cond (not (eqb (h .«stream_id») (e .ids .local))) (some refusal.OtherStream)
@@ -110,7 +110,7 @@ module _ (s : Stream) (t : Totals) (l : Lent) (len : length (l .queue) ≡ 128) 
   refuses why e =
       refused-answers (deliver datagram clock) s t l why (is-refused (deliver datagram clock) (deliverRefusal datagram clock) acts s t l why (λ e. refl) e)
 
-  -- refused before the datagram is looked at
+  -- refused before the datagram is read
   pub early-refused : (why : Refusal) → v ≡ verdict.Refused why → Answers (deliver datagram clock) s t l (refusedStep s t why) l
   early-refused why e =
       refuses why

@@ -1,5 +1,5 @@
--- A drive on the records answers as the model's. Its refusals are the model's list; one that none stops is done where the stream is drained,
--- and else `pollDrive` on what is seen, for which the rules leave room in the queue.
+-- A drive on the records answers as the model's. Its refusals are the model's list. If none applies, it answers done if the stream is
+-- drained, else it is `pollDrive` on what is seen; the rules leave enough room in the queue.
 use Prim.Native.Nat.{ℕ, _<_}
 use native.Mathlib.Omega.{arith}
 use mathlib.Core.Path.{_≡_, refl, sym, ap, _∙_, subst}
@@ -35,7 +35,7 @@ use Rattle.udx.proofs.RefusalLaws.{is-refused, is-clear, acts-on, refus
 use Rattle.udx.proofs.Resting.{ready}
 use Rattle.udx.proofs.Unbroken.{Whole, unbroken, still-laid, places-used}
 
--- what a drive does that is not refused
+-- what a drive does if it is not refused
 abbrev acts : ℕ → End → Answer
 acts clock e = cond (drained e) (answered Done (ended (driveClock clock e))) (answered Ready (pollDrive clock e))
 

@@ -1,4 +1,4 @@
--- The refusals that a drive and a delivery share are the model's list of a drive.
+-- The refusals that a drive and a delivery share are the model's list for a drive.
 use Prim.Native.Nat.{ℕ, _^_, _<_}
 use mathlib.Core.Path.{_≡_, refl, sym, ap, _∙_}
 use mathlib.Core.Option.{none}
@@ -35,7 +35,7 @@ module _ (s : Stream) (t : Totals) (l : Lent) (len : length (l .queue) ≡ 128) 
     pub early-says : v ≡ verdictOf (whyOf (driveRefusal clock) s t l)
     early-says = says ∙ ap (λ (x : Bool). earlyVerdict x s clock) is ∙ early-list
 
-    -- what it leaves where it is clear: no refusal 1, a good clock, nothing left to take
+    -- what a clear verdict implies: no refusal 1, a good clock, nothing left to take
     pub early-clear : v ≡ Clear
         → (brokenRecords s t l ≡ false) × ((leb (2 ^ 60) clock || ltb clock (s .clocks .last .0)) ≡ false) × (s .queue .left ≡ 0)
     unfolding earlyVerdict

@@ -41,7 +41,7 @@ use Rattle.udx.specs.Read.{readLent, Gives}
 use Rattle.udx.proofs.RefusalLaws.{refusal-one, whyOf, is-refused, is-clear, acts-on, refused-agrees, puts-nothing}
 use Rattle.udx.proofs.Unbroken.{Whole, unbroken, still-laid}
 
--- held packets keep their rule
+-- held packets obey their rule
 
 by-order : (a n : ℕ) (P : Type 0) → a ≤ n → (a < n → P) → (a ≡ n → P) → P
 by-order a n P h less same = go (ltb a n) refl

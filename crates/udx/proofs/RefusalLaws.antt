@@ -1,5 +1,5 @@
--- Refusals on the records are the model's on what is seen of them: refusal 1 by the theorem about it, the others because they look at the
--- same numbers. And what a verdict says of the model's answer.
+-- Refusals on the records are the model's on what is seen of them: refusal 1 by the theorem about it, the others because they test the
+-- same numbers. Also, what a verdict implies for the model's answer.
 use Prim.Native.Nat.{ℕ}
 use native.Mathlib.Omega.{arith}
 use mathlib.Core.Path.{_≡_, refl, sym, ap, subst}
@@ -30,12 +30,12 @@ use Rattle.udx.specs.Agree.{laidOut, onRecords, Agrees, Answers}
 use Rattle.rules_lent.specs.Broken.{brokenRecords}
 use Rattle.udx_refusals.specs.Verdicts.{verdictOf, errorVerdict, writeVerdict}
 
--- one line of a list
+-- one test of a list
 pub line : (b : Bool) (why : Refusal) (v : Verdict) (o : Option Refusal) → v ≡ verdictOf o → cond b (Refused why) v ≡ verdictOf (cond b (some why) o)
 line true why v o e = refl
 line false why v o e = e
 
--- the three lines of the stream's error
+-- the three tests of the stream's error
 pub error-lines : (x : UdxError) (v : Verdict) (o : Option Refusal) → v ≡ verdictOf o
     → errorVerdict x v
     ≡ verdictOf (cond (isReset x) (some refusal.ConnectionReset) (cond (isEof x) (some refusal.UnexpectedEof) (cond (isTimedOut x) (some refusal.TimedOut) o)))
@@ -61,7 +61,7 @@ refusal-one s t l v o h e =
     rw (e, ok-seen s t l h)
     (first-cases (storesTest (l .outgoing) (l .incoming) (l .headers)) (formed s (l .queue)) (rules (seen s t l)) o)
 
--- what a verdict says
+-- what a verdict implies
 
 refusal-of : (o : Option Refusal) (why : Refusal) → Refused why ≡ verdictOf o → o ≡ some why
 refusal-of none why e = let z : _≡_ {A = ℕ} 0 1 = cc in absurd (omega arith)
@@ -114,7 +114,7 @@ write-list s t l bytes len =
     (line (ltb 0 (s .queue .left)) refusal.BatchesLeft _ _
     (error-lines (s .ending .error) _ _ (line (not empty && leb 4_294_967_295 (s .sender .seq)) refusal.SeqExhausted Clear none refl)))
 
--- a clear verdict leaves each of its lines out
+-- if a verdict is clear, none of its tests holds
 pub clear-line : (b : Bool) (why : Refusal) (v : Verdict) → cond b (Refused why) v ≡ Clear → (b ≡ false) × (v ≡ Clear)
 clear-line true why v h = let z : _≡_ {A = ℕ} 0 1 = cc in absurd (omega arith)
 clear-line false why v h = (refl, h)
@@ -136,7 +136,7 @@ refused-answers call s t l why e =
       beside = record { outgoing = λ i l. refl; incoming = λ i l. refl };
     }
 
--- an answer without bytes leaves the buffer
+-- an answer without bytes leaves the buffer unchanged
 pub puts-nothing : (buf : Bytes) (a : Answer) → a .bytes ≡ [] → buf ≡ put buf 0 (a .bytes)
 unfolding put
 puts-nothing buf a e = rw e refl

@@ -1,5 +1,5 @@
--- Records that keep the rules, with nothing left to take, are ready for a write (`ready`): the sums over the stored packets are bounded by
--- the slots, and a queue at rest by its distinct numbers.
+-- Records that obey the rules, with nothing left to take, are ready for a write (`ready`): the sums over the stored packets are bounded by
+-- the number of slots, and a queue at rest by its distinct numbers.
 use Prim.Native.Nat.{ℕ, zero, suc, _+_, _-_, _*_, _%_, _≤_, _<_}
 use native.Mathlib.Omega.{arith}
 use mathlib.Core.Path.{_≡_, refl, sym, _∙_, subst}
@@ -26,7 +26,7 @@ use Rattle.write_all.specs.Write.{Ready}
 use Rattle.udx_steps.specs.Write.{outboxOf}
 use Rattle.udx.proofs.Unbroken.{Whole}
 
--- the number of stored packets is at most that of numbers
+-- there are at most as many stored packets as numbers
 
 one-most : (b : Bool) → cond b 1 0 ≤ 1
 one-most true = omega arith

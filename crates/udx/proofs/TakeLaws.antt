@@ -56,7 +56,7 @@ head-some outgoing (packet n l ∷ q) k h = let (a, b, c) = k .0 in omega arith
 ready-other : (why : Refusal) → Ready ≡ Refused why → ⊥
 ready-other why q = let z : _≡_ {A = ℕ} 0 1 = cc in omega arith
 
--- b is what refusal 1's test answers, v the verdict
+-- b is the result of refusal 1's test, v the verdict
 module _ (s : Stream) (t : Totals) (l : Lent) (buf : Bytes) (len : length (l .queue) ≡ 128) (b : Bool) (is : b ≡ brokenRecords s t l)
     (v : Verdict) (h : v ≡ takeVerdict b (length buf)) where
   abbrev acts : End → Answer

@@ -1,5 +1,4 @@
--- What refusal 1 leaves: where it does not come, the stores have their lengths, the records are laid out and what is seen of them keeps
--- the rules.
+-- If refusal 1 does not apply, the stores have the right lengths, the records are laid out, and what is seen of them obeys the rules.
 use native.Mathlib.Omega.{arith}
 use mathlib.Core.Path.{_≡_, refl, sym}
 use mathlib.Core.Bool.{Bool, true, false, _||_, not}

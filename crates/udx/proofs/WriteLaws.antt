@@ -1,4 +1,4 @@
--- A write on the records answers as the model's: a refused one because the lists of refusals are the same, the others piece by piece.
+-- A write on the records answers as the model's: if refused, because the lists of refusals are the same; else piece by piece.
 use Prim.Native.Nat.{ℕ}
 use native.Mathlib.Omega.{arith}
 use mathlib.Core.Path.{_≡_, refl, sym, ap, _∙_, subst}
@@ -41,7 +41,7 @@ not-refused : (b : Bool) (why : Refusal) → cond b Ready Waiting ≡ Refused wh
 not-refused true why e = let z : _≡_ {A = ℕ} 0 1 = cc in omega arith
 not-refused false why e = let z : _≡_ {A = ℕ} 0 1 = cc in omega arith
 
--- b is what refusal 1's test answers, v the verdict
+-- b is the result of refusal 1's test, v the verdict
 module _ (s : Stream) (t : Totals) (l : Lent) (bytes : Bytes) (len : length (l .queue) ≡ 128) (b : Bool) (is : b ≡ brokenRecords s t l)
     (v : Verdict) (h : v ≡ writeVerdict b s (eqb (length bytes) 0)) where
   abbrev acts : End → Answer

@@ -1,4 +1,4 @@
--- Look on the records: nothing where they are not laid out as they should be, else what the model shows.
+-- Look on the records: nothing if they are not laid out, else what the model shows.
 use mathlib.Core.List.{[]}
 use mathlib.Core.Bool.{cond}
 use Rattle.model.specs.Lists.{Bytes}

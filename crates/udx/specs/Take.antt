@@ -10,7 +10,7 @@ use Rattle.records.specs.Seen.{Lent}
 use Rattle.udx_steps.specs.declared.step.Step.{Step}
 use Rattle.udx.specs.Agree.{onRecords, Answers}
 
--- a take answers as the model's, and its bytes stand at the front of the buffer, whose other bytes stay
+-- a take answers as the model's does; its bytes are at the front of the buffer, the rest of which is unchanged
 pub record Hands (s : Stream) (t : Totals) (before : Lent) (buf : Bytes) (r : Step) (after : Lent) (buf′ : Bytes) : Type 0 where
   pub answers : Answers (model.take (length buf)) s t before r after
   pub bytes : buf′ ≡ put buf 0 ((onRecords (model.take (length buf)) s t before) .bytes)

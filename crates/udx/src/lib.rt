@@ -1,9 +1,9 @@
-// The calls of a stream. Each takes the records as they are, tests the refusals of 01 in their order, and answers with the stream and the
-// totals after it. specs/Agree.antt says how an answer on the records is the model's.
+// The calls of a stream. Each takes any records, checks 01's refusals in order, and returns the stream and the totals after the call.
+// specs/Agree.antt says what it means that an answer on the records agrees with the model's.
 //
-// The calls, with the refusals that each can answer, in checking order:
+// The refusals that each call can return, in checking order:
 //
-//   open            1 (lengths alone), 3, 4
+//   open            1 (lengths only), 3, 4
 //   write           1, 6, 14, 15, 16, 17
 //   deliver         1, 4, 5, 6, 7, 8, 9, 10, 11, 12, 13
 //   drive           1, 4, 5, 6

@@ -1,5 +1,4 @@
--- A call crosses the boundary in one of two ways: refused with 1 for a byte that stands for nothing, or made on the records that the
--- numbers stand for.
+-- A call crosses the C boundary in one of two ways: refused with 1 for an invalid byte, or made on the records that the numbers represent.
 use mathlib.Core.Path.{_≡_, refl, sym, _∙_}
 use mathlib.Core.Bool.{Bool, true, false, true≢false}
 use Rattle.udx_c_part.specs.declared.Part.{Part}
@@ -17,7 +16,7 @@ use Rattle.udx_c.specs.declared.look.FlatPart.{FlatPart}
 use Rattle.udx_c.specs.Crosses.{Crosses, Called}
 use Rattle.udx_c.specs.Shown.{noPart, flatPart, Looks}
 
--- a test that came out both ways
+-- a test is not both true and false
 pub both : {A : Type 0} (b : Bool) → b ≡ true → b ≡ false → A
 both b t f = absurd (true≢false (sym t ∙ f))
 

@@ -1,4 +1,4 @@
--- A part that became numbers lies in the same store, so the bytes there are those of the part.
+-- A part as numbers is in the same store, so the bytes there are those of the part.
 use Prim.Native.Nat.{_≤_}
 use native.Mathlib.Omega.{arith}
 use mathlib.Core.Path.{_≡_, refl}

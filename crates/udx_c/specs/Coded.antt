@@ -24,7 +24,7 @@ flatDecoded (decoded.Packet h) = record { header = flatHeader h; outcome = 0; re
 flatDecoded (decoded.Refused why) =
     record { header = record { «stream_id» = 0; «recv_win» = 0; seq = 0; ack = 0; typ = 0; «data_offset» = 0 }; outcome = 4; refusal = numberOf why }
 
--- what an encode answers is its outcome's number
+-- an encode returns its refusal's number, or 0
 pub record FlatEncodes (f : FlatHeader) (before after : Bytes) (r : ℕ) : Type 0 where
   pub outcome : Outcome
   pub does : Encodes (headerOf f) before after outcome

@@ -1,4 +1,4 @@
--- A call that crosses the boundary is the call on the records that its numbers stand for, and its answer is that call's as numbers.
+-- A call that crosses the C boundary is the call on the records that its numbers represent, and returns that call's answer as numbers.
 use Prim.Native.Nat.{ℕ}
 use mathlib.Core.Path.{_≡_}
 use mathlib.Core.Bool.{true, false}
@@ -15,14 +15,14 @@ use Rattle.udx_c_numbers.specs.declared.structs.FlatStep.{FlatStep}
 use Rattle.udx_c_numbers.specs.Bytes.{isStrange}
 use Rattle.udx_c_numbers.specs.Flat.{streamOf, totalsOf, flatStep, flatOpened, brokenStep}
 
--- a step that is the call's, and that is what is handed back
+-- the call's step, returned as numbers
 pub record Called (call : Stream → Totals → Lent → Step → Lent → Type 0) (s : FlatStream) (t : FlatTotals) (before : Lent) (r : FlatStep)
     (after : Lent) : Type 0 where
   pub step : Step
   pub does : call (streamOf s) (totalsOf t) before step after
   pub flat : r ≡ flatStep step
 
--- refusal 1: stream and totals come back as they came, and no word and no byte has changed
+-- refusal 1: stream and totals are returned as received, and no word or byte has changed
 pub record Refuses (s : FlatStream) (t : FlatTotals) (before : Lent) (r : FlatStep) (after : Lent) : Type 0 where
   pub answer : r ≡ brokenStep s t
   pub lent : after ≡ before

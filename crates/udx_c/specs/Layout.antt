@@ -1,4 +1,4 @@
--- The structs as lists of their fields, in order: what the layout functions hand a binding to compare with its own.
+-- The structs as lists of their fields, in order: what the layout functions give a binding to compare with its own.
 use Prim.Native.Nat.{ℕ, zero, suc}
 use mathlib.Core.List.{List, [], _∷_, _++_}
 use Rattle.udx_c_numbers.specs.declared.structs.FlatStream.{FlatStream}

@@ -1,4 +1,4 @@
--- Look for C: the part of a store by its numbers (`Looks`), and that its bytes are those that look shows (`LooksShown`, proved in
+-- Look for C: the part of a store as numbers (`Looks`), and that its bytes are those that look shows (`LooksShown`, proved in
 -- proofs/ShownLaws.antt).
 use Prim.Native.Nat.{_+_, _≤_}
 use mathlib.Core.Path.{_≡_}
@@ -23,29 +23,29 @@ abbrev pub flatPart : Part → FlatPart
 flatPart p = record { start = p .start; length = p .length; header = cond (p .header) 1 0 }
 
 -- 01, 'Added by design': "look, in which the next datagram .. is shown as a part of the outgoing store or of the header store, an empty
--- part when nothing is left to take and also in place of refusal 1", which a strange byte meets too
+-- part when nothing is left to take and also in place of refusal 1", to which a strange byte leads too
 pub record Looks (s : FlatStream) (t : FlatTotals) (l : Lent) (r : FlatPart) : Type 0 where
   pub known : isStrange (s .ending) ≡ false → r ≡ flatPart (lookedPart (streamOf s) (totalsOf t) l)
   pub strange : isStrange (s .ending) ≡ true → r ≡ noPart
 
 -- its bytes
 
--- the store that a part lies in
+-- the store that a part is in
 abbrev pub storeOf : FlatPart → (outgoing headers : Bytes) → Bytes
 storeOf p outgoing headers = cond (eqb (p .header) 1) headers outgoing
 
 abbrev pub bytesOf : FlatPart → (outgoing headers : Bytes) → Bytes
 bytesOf p outgoing headers = take (p .length) (drop (p .start) (storeOf p outgoing headers))
 
--- the part that shows these bytes: they stand there, and all of it lies in its store, so that its length is theirs
+-- a part that shows these bytes: they are there, all of the part is in its store, and its length is theirs
 pub record ShownBy (shown outgoing headers : Bytes) (p : FlatPart) : Type 0 where
   pub bytes : bytesOf p outgoing headers ≡ shown
   pub within : p .start + p .length ≤ length (storeOf p outgoing headers)
   pub long : p .length ≡ length shown
-  -- 1 or 0, so that a test of any kind tells the stores apart
+  -- 1 or 0, so that a binding may test for either
   pub flag : p .header ≤ 1
 
--- what stands there is what `look` shows
+-- the bytes there are those that `look` shows
 abbrev pub LooksShown : Type 0
 LooksShown =
     (s : FlatStream) (t : FlatTotals) (l : Lent) (r : FlatPart)

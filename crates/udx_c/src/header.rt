@@ -16,7 +16,7 @@ pub struct FlatHeader {
     pub data_offset: u8,
 }
 
-// The header is all 0 where it is refused.
+// The header is all 0 if it is refused.
 #[repr(C)]
 pub struct FlatDecoded {
     pub header: FlatHeader,
@@ -24,7 +24,7 @@ pub struct FlatDecoded {
     pub refusal: u8,
 }
 
-// 0, or the refusal's number.
+// Returns 0, or the refusal's number.
 #[no_mangle]
 pub extern "C" fn udx_encode(header: FlatHeader, buf: &mut [u8]) -> u8
     ensures { λ r. ⌜ FlatEncodes header (now (buf .entry)) (now (buf .exit)) r ⌝ }

@@ -1,4 +1,4 @@
-// How the structs lie in memory, as this archive reads and writes them: a binding in any language can compare it with its own.
+// The memory layout of the structs, as this archive reads and writes them: a binding in any language can compare it with its own.
 ghost use mathlib.Core.Path.{_≡_};
 ghost use mathlib.Core.List.{_++_};
 ghost use lib.ListN.{replicate};
@@ -19,7 +19,7 @@ pub struct Numbers {
     pub n: [u64; 24],
 }
 
-// The fields of a stream in their order, as they were received.
+// The fields of a stream in order, as received.
 #[no_mangle]
 pub extern "C" fn udx_layout_stream(s: FlatStream) -> Numbers
     ensures { λ r. ⌜ r .n ≡ streamFields s ⌝ }
@@ -148,7 +148,7 @@ fn counted_stream() -> FlatStream
     }
 }
 
-// A step whose fields are 1, 2, 3 and so on in their order.
+// A step whose fields are 1, 2, 3 and so on, in order.
 #[no_mangle]
 pub extern "C" fn udx_layout_step() -> FlatStep
     ensures { λ r. ⌜ stepFields r ≡ countFrom 34 1 ⌝ }

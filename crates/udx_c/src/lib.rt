@@ -1,8 +1,8 @@
-// What C and Rust link: every call of udx as a C function. Structs of plain numbers go in and come back by value, words and stores are
+// What C and Rust link: every call of udx as a C function. Structs of plain numbers are passed and returned by value, words and stores are
 // lent as they are, enums are numbers. include/udx.h declares all of it.
 //
-// No function asks anything of its caller's numbers: a byte that stands for no error, no close state or no flag is a broken record, and
-// the call answers refusal 1.
+// The caller may pass any numbers: a byte that is not a valid error, close state or flag is a broken record, and the call answers
+// refusal 1.
 mod close;
 mod deliver;
 mod drive;

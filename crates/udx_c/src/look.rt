@@ -11,11 +11,11 @@ use udx_c_numbers::totals_of;
 use udx_c_part::Part;
 use udx_c_part::look_place;
 
-// Where the next datagram stands. C cannot be handed a part of a slice, so it is a store, a start and a length.
+// Where the next datagram is. C cannot be given a subslice, so this is a store, a start and a length.
 #[repr(C)]
 pub struct FlatPart {
     pub start: usize,
-    // 0 where none is left to take, and in place of refusal 1.
+    // 0 if no datagram is left to take, and in place of refusal 1.
     pub length: usize,
     // 1 for the header store, else 0 for the outgoing store.
     pub header: u8,

@@ -1,4 +1,4 @@
--- Numbers that a call handed back stand for its records (`ComesBack`): each enum comes back from its byte.
+-- The numbers that a call returns represent its records (`ComesBack`): each enum is recovered from its byte.
 use mathlib.Core.Path.{_≡_, refl}
 use mathlib.Core.Bool.{Bool, true, false, cond}
 use lib.Dec.{eqb, ltb}

@@ -1,4 +1,4 @@
--- The numbers that stand for enums and flags at the boundary; include/udx.h has the same list.
+-- The numbers that represent enums and flags at the C boundary; include/udx.h has the same list.
 use Prim.Native.Nat.{ℕ}
 use mathlib.Core.Bool.{Bool, cond, _||_}
 use lib.Dec.{eqb, ltb}
@@ -30,7 +30,7 @@ stateByte state.BothClosed = 3
 abbrev pub stateOf : ℕ → StreamState
 stateOf n = cond (eqb n 0) state.Open (cond (eqb n 1) state.LocalClosed (cond (eqb n 2) state.RemoteClosed state.BothClosed))
 
--- a byte that stands for nothing
+-- whether a byte is invalid
 abbrev pub isStrange : FlatEnding → Bool
 isStrange e = ltb 3 (e .error) || (ltb 3 (e .state) || ltb 1 (e .ended))
 

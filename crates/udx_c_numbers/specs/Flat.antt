@@ -20,7 +20,7 @@ use Rattle.udx_c_numbers.specs.declared.structs.FlatStream.{FlatStream}
 use Rattle.udx_c_numbers.specs.declared.structs.FlatTotals.{FlatTotals}
 use Rattle.udx_c_numbers.specs.declared.structs.FlatStep.{FlatStep}
 
--- what numbers stand for
+-- from numbers to records
 
 abbrev pub idsOf : FlatIds → Ids
 idsOf f = record { local = f .local; remote = f .remote; segments = f .segments }
@@ -67,7 +67,7 @@ totalsOf f =
       «inflight_bytes» = f .«inflight_bytes»;
     }
 
--- what is handed back
+-- from records to numbers
 
 abbrev pub flatIds : Ids → FlatIds
 flatIds g = record { local = g .local; remote = g .remote; segments = g .segments }
@@ -132,6 +132,6 @@ flatOpened r =
       refusal = refusalByte (r .outcome);
     }
 
--- refusal 1, with stream and totals as they came
+-- refusal 1, with stream and totals as received
 unfoldable pub brokenStep : FlatStream → FlatTotals → FlatStep
 brokenStep s t = record { stream = s; totals = t; count = 0; segment = 0; outcome = 4; refusal = 1 }

@@ -1,4 +1,4 @@
--- What a call hands back stands for just the records that it was made from: the next call goes on from there.
+-- The numbers that a call returns represent exactly the records they were made from, so the next call continues from there.
 use mathlib.Core.Path.{_≡_}
 use mathlib.Core.Bool.{false}
 use Rattle.records.specs.declared.Stream.{Stream}

@@ -76,7 +76,7 @@ pub fn flag_byte(flag: bool) -> u8
     if flag { 1 } else { 0 }
 }
 
-// A byte that stands for nothing: C filled it with another value.
+// Whether a byte is invalid: C may pass any value.
 pub fn strange(e: FlatEnding) -> bool
     ensures { λ r. ⌜ r ≡ isStrange e ⌝ }
 {

@@ -161,7 +161,7 @@ pub fn flat_opened(a: Opened) -> FlatStep
     }
 }
 
-// Refusal 1, with stream and totals as they came.
+// Refusal 1, with stream and totals as received.
 pub fn broken_step(stream: FlatStream, totals: FlatTotals) -> FlatStep
     ensures { λ r. ⌜ r ≡ brokenStep stream totals ⌝ }
 {

@@ -1,4 +1,4 @@
-// The records and the answers of a call as C's plain numbers, and back. No function here asks anything of its caller.
+// The records and the answers of a call as plain numbers for C, and back. No function here has a precondition.
 mod ending;
 mod flatten;
 mod streams;

@@ -1,4 +1,4 @@
-// The records that C's numbers stand for.
+// The records that C's numbers represent.
 ghost use mathlib.Core.Path.{_≡_};
 ghost use Rattle.udx_c_numbers.specs.Flat.{idsOf, senderOf, receiverOf, queueOf, timingOf, clocksOf, streamOf, totalsOf};
 use crate::ending::ending_of;

@@ -1,5 +1,5 @@
-// The records as C sees them: the groups of `records` with their fields, every field a plain number. What each number means stands in
-// include/udx.h.
+// The records as C sees them: the groups of `records` with their fields, every field a plain number. include/udx.h says what each number
+// means.
 
 #[repr(C)]
 pub struct FlatIds {
@@ -46,7 +46,7 @@ pub struct FlatClocks {
     pub drive: u64,
 }
 
-// Bytes, since C may fill them with anything.
+// Bytes, not enums, since C may pass any value.
 #[repr(C)]
 pub struct FlatEnding {
     // 0 none, 1 ConnectionReset, 2 UnexpectedEof, 3 TimedOut.

@@ -38,7 +38,7 @@ use Rattle.udx_c_part.specs.Place.{noPart, headerPart, packetPart, first
 use Rattle.udx_c_part.proofs.Parts.{empty-part, part-of, header-within, packet-within}
 
 module _ (s : Stream) (t : Totals) (l : Lent) (len : length (l .queue) ≡ 128) where
-  -- refusal 1, a call's first test, does not hold of records that are laid out and keep the rules
+  -- refusal 1, a call's first test, does not apply to records that are laid out and obey the rules
   pub looked-broken : brokenRecords s t l ≡ true → noPart ≡ lookedPart s t l
   unfolding lookedPart
   looked-broken h = go (laidOut s l) refl (rules (seen s t l)) refl
@@ -94,7 +94,7 @@ module _ (s : Sender) (sent : List ℕ) (outgoing headers : Bytes) (stored : All
               rw (get-there s sent outgoing n, z, cut-length outgoingSlot outgoing (n % ceiling) k) (packet-shown n z)
           there false z r = rw (get-there s sent outgoing n, z) r
 
--- where refusal 1 does not apply and entries are left to take, else nothing
+-- shown if refusal 1 does not apply and entries are left to take, else nothing
 shown-cases : (laid kept left : Bool) (shown outgoing headers : Bytes) (p : Part) → (laid ≡ true → kept ≡ true → PartOf shown outgoing headers p)
     → PartOf (cond laid (cond (kept && left) shown []) []) outgoing headers (cond (laid && kept) (cond left p noPart) noPart)
 shown-cases true true true shown outgoing headers p h = h refl refl

@@ -1,5 +1,5 @@
--- The search for the next datagram's part: while every entry passed is of a packet that has left, the first part of all entries is the
--- first part of the rest.
+-- The search for the next datagram's part: as long as the packet of every entry passed has left, the first part of all entries is the first
+-- part of the rest.
 use Prim.Native.Nat.{ℕ, _+_, _%_, _≤_, _<_}
 use native.Mathlib.Omega.{arith}
 use mathlib.Core.Path.{_≡_, refl, ap, sym, _∙_}
@@ -30,7 +30,7 @@ module _ (q : Queue) (s : Sender) (sent queue : List ℕ) where
   abbrev entries : Bytes → List model.Entry
   entries headers = seenEntries headers (q .gone) (entryWords q queue)
 
-  -- of the entries from i on
+  -- the first part of the entries from i on
   abbrev partFrom : ℕ → Bytes → Bytes → Part
   partFrom i outgoing headers = firstPart (storeSeen s sent outgoing) (q .gone) (drop i (entries headers))
 

@@ -1,4 +1,4 @@
--- A part that lies in its store has as many bytes as it says; each kind of part lies in its store.
+-- A part within its store has as many bytes as its length says; each kind of part is within its store.
 use Prim.Native.Nat.{ℕ, _+_, _*_, _%_, _≤_, _<_}
 use native.Mathlib.Omega.{arith}
 use mathlib.Core.Path.{_≡_, refl, sym, ap, _∙_}

@@ -1,5 +1,5 @@
--- Look's answer by its numbers: the part of a lent store where the next datagram is (`lookedPart`), beside the model's `look` line by
--- line; and that its bytes are those that look shows (`LookedShown`, proved in proofs/Looked.antt).
+-- Look's answer as numbers: the part of a lent store where the next datagram is (`lookedPart`), line by line like the model's `look`; and
+-- that its bytes are those that look shows (`LookedShown`, proved in proofs/Looked.antt).
 use Prim.Native.Nat.{ℕ, _+_, _*_, _%_, _≤_}
 use mathlib.Core.Path.{_≡_}
 use mathlib.Core.List.{List, [], _∷_}
@@ -34,20 +34,20 @@ headerPart place = record { header = true; start = place * 20; length = 20 }
 abbrev pub packetPart : (n size : ℕ) → Part
 packetPart n size = record { header = false; start = n % 32 * 1_400; length = size }
 
--- "first entry left to take whose packet is there", as the model's `firstThere`; `place` is the first state packet's in the header store
+-- "first entry left to take whose packet is there", like the model's `firstThere`; `place` is the first state packet's in the header store
 abbrev pub firstPart : Slots Packet → (place : ℕ) → List Entry → Part
 firstPart outgoing place [] = noPart
 firstPart outgoing place (state b ∷ q) = headerPart place
 firstPart outgoing place (packet n l ∷ q) = on (get outgoing n) (firstPart outgoing place q) (λ p. packetPart n (length (p .bytes)))
 
 -- 01, 'Added by design': "the next datagram .. is shown as a part of the outgoing store or of the header store, an empty part when nothing
--- is left to take and also in place of refusal 1", which applies where the records are not laid out as they should be or break a rule
+-- is left to take and also in place of refusal 1", which applies if the records are not laid out or break a rule
 unfoldable pub lookedPart : Stream → Totals → Lent → Part
 lookedPart s t l =
     let e = seen s t l in
     cond (laidOut s l && rules e) (cond (ltb 0 (e .queue .left)) (firstPart (e .sender .outgoing) (s .queue .gone) (e .queue .entries)) noPart) noPart
 
--- what the search finds, with no store lent to it
+-- what the search finds, whatever the stores, since none is lent to it
 abbrev pub FindsPart : Queue → Sender → (sent queue : List ℕ) → Part → Type 0
 FindsPart q s sent queue r =
     (outgoing headers : Bytes)
@@ -59,12 +59,12 @@ FindsPart q s sent queue r =
 abbrev pub partBytes : Part → (outgoing headers : Bytes) → Bytes
 partBytes p outgoing headers = take (p .length) (drop (p .start) (cond (p .header) headers outgoing))
 
--- the part that shows these bytes: they stand there, and all of it lies in its store, so that its length is theirs
+-- a part that shows these bytes: they are there, all of the part is in its store, and its length is theirs
 pub record PartOf (shown outgoing headers : Bytes) (p : Part) : Type 0 where
   pub bytes : partBytes p outgoing headers ≡ shown
   pub within : p .start + p .length ≤ length (cond (p .header) headers outgoing)
   pub long : p .length ≡ length shown
 
--- on any records, words and stores the part has the bytes that look shows
+-- for any records, words and stores the part has the bytes that look shows
 abbrev pub LookedShown : Type 0
 LookedShown = (s : Stream) (t : Totals) (l : Lent) → PartOf (shownOf s t l) (l .outgoing) (l .headers) (lookedPart s t l)

@@ -1,5 +1,5 @@
-// Look for a caller that cannot be handed a part of a slice: where in a lent store the next datagram stands. What stands there is what
-// `look` shows.
+// Look for a caller that cannot be given a subslice: where in a lent store the next datagram is. The bytes there are those that `look`
+// shows.
 ghost use mathlib.Core.Path.{_≡_};
 ghost use Rattle.records.specs.Seen.{QueueFormed};
 ghost use Rattle.rules_lent.specs.Broken.{lent};
@@ -17,10 +17,10 @@ use take_entry::there;
 
 // A part of a lent store.
 pub struct Part {
-    // Of the header store, else of the outgoing store.
+    // Part of the header store, else of the outgoing store.
     pub header: bool,
     pub start: usize,
-    // 0 where no datagram is left to take, and in place of refusal 1.
+    // 0 if no datagram is left to take, and in place of refusal 1.
     pub length: usize,
 }
 
@@ -56,8 +56,8 @@ fn packet_part(n: u32, size: u32) -> Part
     }
 }
 
-// The first entry left to take whose packet is there. A state packet always is, so the search passes none, and the first one's place is
-// that of the first one queued.
+// The part of the first entry left to take whose packet is there. A state packet always is, so the search skips none, and one that it
+// finds is the first one queued, at place `gone`.
 fn next_part(q: Queue, s: Sender, sent: &[u64; 64], queue: &[u64; 128]) -> Part
     requires { ⌜ QueueFormed q (now queue) ⌝ }
     ensures { λ r. ⌜ FindsPart q s (now (sent .entry)) (now (queue .entry)) r ⌝ }

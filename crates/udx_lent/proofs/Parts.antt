@@ -1,5 +1,5 @@
--- What the walks of the calls share: the records' types, machine values and laws, the answer of a step, and a step's machine value taken
--- apart. `apart` and where the fields lie do not compute in a walk, so it meets five values and five numbers. Assumes nothing but `Given`.
+-- What the walks of the calls share: the records' types, machine values and laws, the answer of a step, and a step's machine value split
+-- into fields. `apart` and the fields' offsets do not compute in a walk, so it sees five values and five numbers. Assumes only `Given`.
 use mathlib.Core.Path.{_≡_, refl, ap}
 use Prim.Native.Nat.{ℕ}
 use mathlib.Core.List.{List, [], _∷_}
@@ -37,11 +37,11 @@ use Rattle.udx_lent.specs.declared.answer.Answer.{Answer}
 use Rattle.udx_lent.proofs.answer.Answer as D·Answer
 use Rattle.udx_lent.proofs.answer.Answer.Laws as D·Answer′
 
--- the context, as the list that it computes to: what follows need not compute it again
+-- the context, as the list that it computes to, so that it is not computed again
 abbrev pub restate : {M : Type 1} {𝓤 : URA M} {H : Heap 𝓤} {A : Atoms 𝓤} {K : Type 0} {W : Given 𝓤 H A} {G : Goal 𝓤 H} → K → (Γ : List (Item 𝓤)) → Turn K W Γ G Γ G
 restate t Γ = step (λ s. s)
 
--- the locals, with their types written out: a type that is looked up by its name costs much each time that two cells are compared
+-- the locals, with their types written out: looking a type up by name is slow, and happens each time two cells are compared
 abbrev pub locals : {M : Type 1} {𝓤 : URA M} {H : Heap 𝓤} {A : Atoms 𝓤} {K : Type 0} {W : Given 𝓤 H A} {Γ : List (Item 𝓤)} {F : Env 𝓤 H → Goal 𝓤 H} → K → (ls : List Local) → Turn K W Γ (allocs ls F) Γ (allocs ls F)
 locals t ls = step (λ s. s)
 
@@ -49,8 +49,8 @@ locals t ls = step (λ s. s)
 abbrev pub words : ℕ → RattleType
 words n = Array u64 n
 
--- of each record: its type (totalsT), its MIR type (totalsM), its machine value (totalsV, totals-vals, totals-tells), that it is owned for
--- nothing (totals-makes), and that its machine value is of its type (totals-ok)
+-- for each record: its type (totalsT), its MIR type (totalsM), its machine value (totalsV, totals-vals, totals-tells), that owning it needs
+-- no resources (totals-makes), and that its machine value has its type (totals-ok)
 abbrev pub totalsT : RattleType
 totalsT = D·Totals.the-row
 
@@ -166,7 +166,7 @@ apart r u is =
       answer-is = LL.owes D·Answer.the-type D·Answer′.the-laws (answerOf r) (f .0, (f .1 .1 .0, (f .1 .1 .1 .0, (f .1 .1 .1 .1 .0, tt))));
     }
 
--- where the fields of a step lie
+-- the offsets of a step's fields
 abbrev fieldsOf : Ty → Tys
 fieldsOf (tyInt w) = tnil
 fieldsOf tyBool = tnil

@@ -13,7 +13,7 @@ use Rattle.packet.specs.declared.header.Header.{Header}
 use Rattle.packet.specs.Header.{hasType}
 use Rattle.records.specs.declared.Stream.{Stream}
 
--- the first refusal of the model's list, as a verdict
+-- the model's first refusal, if any, as a verdict
 abbrev pub verdictOf : Option Refusal → Verdict
 verdictOf none = Clear
 verdictOf (some why) = Refused why
@@ -51,8 +51,8 @@ earlyVerdict broken s clock =
     (cond (leb (2 ^ 60) clock || ltb clock (s .clocks .last .0)) (Refused refusal.BadClock)
     (cond (s .ending .ended) (Refused refusal.AfterDone) (cond (ltb 0 (s .queue .left)) (Refused refusal.BatchesLeft) Clear)))
 
--- refusals 8 to 13 of a delivery whose datagram has header h and a payload of so many bytes; with nothing left to take no state packet is
--- gone, so those queued are all that were
+-- refusals 8 to 13 of a delivery with header h and a payload of this length; with nothing left to take no state packet is gone, so `states`
+-- is the number queued
 unfoldable pub headerVerdict : Stream → Header → (payload : ℕ) → Verdict
 headerVerdict s h payload =
     cond (not (eqb (h .«stream_id») (s .ids .local))) (Refused refusal.OtherStream)

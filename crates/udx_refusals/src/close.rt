@@ -7,7 +7,7 @@ use error::Verdict;
 use error::refuse_if;
 use records::Stream;
 
-// Refusals 1, 5, 6 and 13, in this order. With nothing left to take no state packet is gone, so those queued are all that were.
+// Refusals 1, 5, 6 and 13, in this order. With nothing left to take no state packet is gone, so `states` is the number queued.
 pub fn close_verdict(broken: bool, s: Stream) -> Verdict
     ensures { λ r. ⌜ r ≡ closeVerdict broken s ⌝ }
 {

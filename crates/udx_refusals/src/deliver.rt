@@ -1,4 +1,4 @@
-// The refusals of a delivery that look at its header: 8 to 13.
+// The refusals of a delivery that need its header: 8 to 13.
 ghost use mathlib.Core.Path.{_≡_};
 ghost use mathlib.Core.Bool.{_&&_};
 ghost use Prim.Native.Nat.{_+_};
@@ -31,7 +31,7 @@ fn past_incoming(h: Header, cursor: u32) -> bool
         false
     }
 }
-// Refusals 8 to 13, in this order. Two state packets may follow a delivery, so it leaves places for them.
+// Refusals 8 to 13, in this order. A delivery may queue two state packets, so it needs two free places.
 pub fn header_verdict(s: Stream, h: Header, payload: usize) -> Verdict
     ensures { λ r. ⌜ r ≡ headerVerdict s h payload ⌝ }
 {

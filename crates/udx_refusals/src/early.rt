@@ -1,4 +1,4 @@
-// The refusals of a drive, which are the first ones of a delivery too.
+// The refusals of a drive, which are also the first ones of a delivery.
 ghost use mathlib.Core.Path.{_≡_};
 ghost use mathlib.Core.Bool.{_||_};
 ghost use Prim.Native.Nat.{_^_};
@@ -21,7 +21,7 @@ fn bad_clock(clock: Nanos, last: Nanos) -> bool
         clock.0 < last.0
     }
 }
-// Refusals 1, 4, 5 and 6, in this order: those of a drive, and the first ones of a delivery.
+// Refusals 1, 4, 5 and 6, in this order.
 pub fn early_verdict(broken: bool, s: Stream, clock: Nanos) -> Verdict
     ensures { λ r. ⌜ r ≡ earlyVerdict broken s (clock .0) ⌝ }
 {

@@ -1,5 +1,5 @@
-// The refusals of each call in 01's order, as a verdict: the first test that holds, or clear. Each function answers for every number; what
-// refusal 1 found is handed to it.
+// The refusals of each call in 01's order, as a verdict: the first test that holds, or clear. No function has a precondition; the caller
+// does refusal 1's test and passes its result.
 mod close;
 mod deliver;
 mod early;

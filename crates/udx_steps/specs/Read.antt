@@ -15,7 +15,7 @@ use Rattle.udx_steps.specs.declared.step.Step.{Step}
 abbrev pub outcomeOf : (finished : Bool) → UdxError → Outcome
 outcomeOf finished error = cond finished Ready (errorOr error Waiting)
 
--- a stream with another receiver
+-- the stream with another receiver
 abbrev pub readStream : Receiver → Stream → Stream
 readStream r s =
     record {
@@ -28,7 +28,7 @@ readStream r s =
       clocks = s .clocks;
     }
 
--- the step of what was read
+-- the step of a read
 abbrev pub readStep : Stream → Totals → Read → Step
 readStep s t a =
     record { stream = readStream (a .receiver) s; totals = t; outcome = outcomeOf (a .finished) (s .ending .error); count = a .count; segment = 0 }

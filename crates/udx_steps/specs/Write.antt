@@ -18,7 +18,7 @@ outboxOf s t = record { sender = s .sender; queue = s .queue; totals = t }
 abbrev pub outcomeOf : (empty : Bool) → (count : ℕ) → Outcome
 outcomeOf empty count = cond (empty || ltb 0 count) Ready Waiting
 
--- the step of a write whose pieces left this
+-- the step of a write, after its pieces went
 abbrev pub writtenStep : Stream → Written → (empty : Bool) → Step
 writtenStep s w empty =
     record { stream = withOutbox (w .outbox) s; totals = w .outbox .totals; outcome = outcomeOf empty (w .count); count = w .count; segment = 0 }

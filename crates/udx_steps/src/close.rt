@@ -1,4 +1,4 @@
-// The step of a close: the stream that has ended.
+// The step of a close: the closed stream.
 ghost use mathlib.Core.Path.{_≡_};
 ghost use Rattle.udx_steps.specs.Close.{closedStep};
 use crate::step::Step;
@@ -7,7 +7,7 @@ use error::Outcome;
 use records::Ending;
 use records::Stream;
 
-// A stream that has ended so, with its state packet queued.
+// The stream with this ending and its state packet queued.
 pub fn closed_step(s: Stream, ending: Ending, sent: Queued) -> Step
     ensures { λ r. ⌜ r ≡ closedStep s ending sent ⌝ }
 {

@@ -1,5 +1,5 @@
-// What a call that no refusal stops hands back: its step, and that of a refused one. No call is made here, so each function answers for
-// every number.
+// What a call returns: the step of an accepted call, and that of a refused one. Steps are only put together here, so no function has a
+// precondition.
 mod close;
 mod deliver;
 mod drive;

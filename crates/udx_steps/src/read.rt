@@ -1,4 +1,4 @@
-// The step of a read: ready, the error or waiting, with the place that it reached.
+// The step of a read: ready, the error or waiting, with its new place.
 ghost use mathlib.Core.Path.{_≡_};
 ghost use Rattle.udx_steps.specs.Read.{outcomeOf, readStep};
 use crate::step::Step;
@@ -18,7 +18,7 @@ fn read_outcome(finished: bool, error: UdxError) -> Outcome
     }
     error_or(error, Outcome::Waiting)
 }
-// The step of what was read: bytes and new place are kept whatever the outcome is.
+// The step of a read: the bytes and the new place are kept, whatever the outcome.
 pub fn read_step(s: Stream, totals: Totals, a: Read) -> Step
     ensures { λ r. ⌜ r ≡ readStep s totals a ⌝ }
 {

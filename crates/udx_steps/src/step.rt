@@ -13,7 +13,7 @@ pub struct Step {
     pub outcome: Outcome,
     // Bytes accepted, taken or put.
     pub count: usize,
-    // A batch's segment size, 0 where it has none.
+    // A batch's segment size, 0 if it has none.
     pub segment: usize,
 }
 // "Each returns its number and changes nothing"

@@ -19,7 +19,7 @@ pub fn nothing(stream: Stream, totals: Totals) -> Step
         segment: 0,
     }
 }
-// The step of the batch that was handed out.
+// The step of a take that handed out a batch.
 pub fn taken_step(s: Stream, totals: Totals, h: Handed) -> Step
     ensures { λ r. ⌜ r ≡ takenStep s totals h ⌝ }
 {

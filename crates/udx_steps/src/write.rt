@@ -22,7 +22,7 @@ fn write_outcome(empty: bool, count: usize) -> Outcome
         Outcome::Waiting
     }
 }
-// What pieces change of a stream.
+// The parts of a stream that pieces change.
 pub fn outbox(s: Stream, totals: Totals) -> Outbox
     ensures { λ r. ⌜ r ≡ outboxOf s totals ⌝ }
 {
@@ -45,7 +45,7 @@ fn with_outbox(s: Stream, o: Outbox) -> Stream
     stream.queue = queue;
     stream
 }
-// The step of the pieces that went.
+// The step of a write, after its pieces went.
 pub fn written(s: Stream, w: Written, empty: bool) -> Step
     ensures { λ r. ⌜ r ≡ writtenStep s w empty ⌝ }
 {

@@ -1,6 +1,6 @@
--- The loop of a write on the records (`Going`): what went, joined to what the model still does with the bytes that are left, is what it
--- does with all of them. It holds before the first piece, a sent piece keeps it, and where the loop stops the model's stops too. The
--- bounds grow with the number of packets, of which there are 32 at most.
+-- The invariant of a write's loop on the records (`Going`): what went, joined to what the model does with the bytes left, is what it does
+-- with all of them. It holds before the first piece, a sent piece keeps it, and where the loop stops the model's stops too. The bounds grow
+-- with the number of packets, which is at most 32.
 use Prim.Native.Nat.{ℕ, _+_, _-_, _*_, _%_, _≤_, _<_, min}
 use native.Mathlib.Nat.{add-zero, zero-add}
 use native.Mathlib.Omega.{arith}
@@ -54,7 +54,7 @@ pub record Going (remote ack : ℕ) (bytes : Bytes) (o₀ : Outbox) (sent₀ que
   pub payloads : o .totals .«inflight_bytes» ≤ 44_160 + (o .sender .seq - o .sender .«remote_acked») * 1_380
   pub places : (o .queue .states ≡ o₀ .queue .states) × (o .queue .gone ≡ o₀ .queue .gone)
   pub formed : formedQueue (o₀ .queue) queue₀ ≡ true → formedQueue (o .queue) queue ≡ true
-  -- no byte of the slots to come was touched
+  -- no byte of the slots of later numbers was touched
   pub untouched : (m : ℕ) → o .sender .seq ≤ m → m < o .sender .«remote_acked» + ceiling → (k : ℕ)
       → beyond outgoingSlot outgoing (m % ceiling) k ≡ beyond outgoingSlot outgoing₀ (m % ceiling) k
   pub beside : Stay outgoingSlot (sentSize sent) outgoing₀ outgoing
@@ -85,7 +85,7 @@ starts remote ack bytes o sent queue outgoing r ls lq =
 
 module _ {remote ack : ℕ} {bytes : Bytes} {o₀ : Outbox} {sent₀ queue₀ outgoing₀ : List ℕ} {o : Outbox} {sent queue outgoing : List ℕ} {at : ℕ}
     (g : Going remote ack bytes o₀ sent₀ queue₀ outgoing₀ o sent queue outgoing at) where
-  -- the rest is nothing
+  -- the model does nothing with the rest
   over : ((s : Stream) (l : Lent) → writeAll (drop at bytes) (seenOf o sent queue outgoing s l) ≡ record { count = 0; end = seenOf o sent queue outgoing s l })
       → (at < length bytes → goes (piece (drop at bytes)) (seenSender (o .sender) sent outgoing) ≡ false)
       → Writes o₀ remote ack bytes sent₀ queue₀ outgoing₀ (record { outbox = o; count = at }) sent queue outgoing
@@ -158,7 +158,7 @@ module _ {remote ack : ℕ} {bytes : Bytes} {o₀ : Outbox} {sent₀ queue₀ ou
             (piece-seen x roomy (g .sent-long) (g .queue-long) (g .acked) (g .rest) s l p q ∙ ap (λ (b : Bytes). sendDataPacket b e) (piece-is bytes at k is))
             ∙ all-turn (drop at bytes) e at k some (tested ∙ free) (piece-length bytes at k is)
 
-        -- the slot of the packet was as it was before the write; of the others nothing changes
+        -- the packet's slot was untouched so far; the other slots do not change
         stays : Stay outgoingSlot (sentSize sent′) outgoing₀ outgoing′
         stays i l = at-slot (ℕ-discrete i (o .sender .seq % ceiling))
           where

@@ -1,6 +1,6 @@
--- The model's loop of a write without its fuel (`writeAll`): any fuel that covers the bytes does the same, since each turn takes a byte
--- or more. It stops where no byte is left or the next piece does not go, and else sends that piece and goes on. The piece that the code
--- cuts is the model's.
+-- The model's loop of a write without its fuel (`writeAll`): any fuel that covers the bytes gives the same, since each iteration takes a
+-- byte or more. It stops where no byte is left or the next piece does not go, and otherwise sends that piece and continues. The piece that
+-- the code cuts is the model's.
 use Prim.Native.Nat.{ℕ, zero, suc, _+_, _-_, _≤_, _<_, min}
 use native.Mathlib.Omega.{arith}
 use mathlib.Core.Path.{_≡_, refl, ap, sym, _∙_}
@@ -21,7 +21,7 @@ none-left (b ∷ bytes) h = absurd (omega arith)
 rest-less : (bytes : Bytes) (k : ℕ) → length bytes ≤ suc k → length (drop 1_380 bytes) ≤ k
 rest-less bytes k h = rw length-drop (omega arith)
 
--- what a turn makes of the rest
+-- one iteration, given the result for the rest
 abbrev turned : Bytes → End → Written → Written
 turned bytes e w =
     cond (not (isEmpty bytes) && goes (piece bytes) (e .sender)) (record { count = length (piece bytes) + w .count; end = w .end })
@@ -40,7 +40,7 @@ enough (suc k) zero bytes e h l = rw (none-left bytes l) (loop-empty (suc k) e)
 enough (suc k) (suc m) bytes e h l =
     ap (turned bytes e) (enough k m (drop 1_380 bytes) (sendDataPacket (piece bytes) e) (rest-less bytes k h) (rest-less bytes m l))
 
--- all that the model does with some bytes
+-- the model's whole write of some bytes
 unfoldable pub writeAll : Bytes → End → Written
 writeAll bytes e = writeLoop (length bytes) bytes e
 
@@ -55,7 +55,7 @@ unfolding writeAll writeLoop
 all-stop [] e g = refl
 all-stop (b ∷ bytes) e g = rw g refl
 
--- n bytes went before
+-- a result after n bytes went before
 abbrev pub joined : ℕ → Written → Written
 joined n w = record { count = n + w .count; end = w .end }
 

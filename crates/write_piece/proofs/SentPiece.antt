@@ -1,6 +1,6 @@
--- One sent piece on the records is the model's: what is seen after `SendsPiece` is `sendDataPacket` of what was seen before. The sender
--- is the law of a new packet in the outgoing store, the queue that of a pushed entry, the totals are the same sums. The queue stays as it
--- is laid out, and the store as it was but for the packet's bytes.
+-- Sending one piece on the records is the model's: what is seen after `SendsPiece` is `sendDataPacket` of what was seen before. The sender
+-- follows from the law of a new packet in the outgoing store, the queue from that of a pushed entry, and the totals are the same sums. The
+-- queue stays properly laid out, and the store changes only in the packet's bytes.
 use Prim.Native.Nat.{ℕ, suc, _+_, _*_, _%_, _≤_, _<_}
 use native.Mathlib.Numerals.{add-one}
 use native.Mathlib.Omega.{arith}
@@ -40,7 +40,7 @@ groups : (e : model.End) {a a′ : model.Sender} {b b′ : model.Queue} {c c′ 
     → model.withTotals c (model.withQueue b (model.withSender a e)) ≡ model.withTotals c′ (model.withQueue b′ (model.withSender a′ e))
 groups e p q r = cc
 
--- the sender with another number, inflight and store
+-- the sender with another seq, inflight and store
 abbrev numbersOf : Sender → (seq inflight : ℕ) → Slots model.Packet → model.Sender
 numbersOf s seq inflight outgoing =
     record { seq = seq; remoteAcked = s .«remote_acked»; largestAck = s .«largest_ack»; inflight = inflight; cwnd = s .cwnd; outgoing = outgoing }

@@ -1,5 +1,5 @@
--- One piece on the records: its header, its packet, its queue entry, and the numbers after it; and a stream and lent words and bytes with
--- what it changes.
+-- Sending one piece on the records: its header, its packet, its queue entry and the numbers after it; and a stream, and lent words and
+-- bytes, with these changes.
 use Prim.Native.Nat.{ℕ, _+_, _-_, _*_, _%_, _^_, _<_, _≤_}
 use mathlib.Core.Path.{_≡_}
 use mathlib.Core.List.{List, _++_}
@@ -61,7 +61,7 @@ countedTotals t payload =
 abbrev pub mayGo : Sender → ℕ → Bool
 mayGo s payload = leb (s .inflight + payload) (s .cwnd) && (ltb (s .seq - s .«remote_acked») 32 && ltb (s .seq) 4_294_967_295)
 
--- what a piece needs: a number, a place in the queue, and numbers that do not run over
+-- what a piece needs: a number, a place in the queue, and numbers that do not overflow
 pub record Room (o : Outbox) (store size : ℕ) : Type 0 where
   pub whole : store ≡ 44_800
   pub short : size ≤ 1_380
@@ -71,7 +71,7 @@ pub record Room (o : Outbox) (store size : ℕ) : Type 0 where
   pub packets : o .totals .«inflight_packets» ≤ 1_000_000
   pub bytes : o .totals .«inflight_bytes» ≤ 1_000_000_000
 
--- the words of a packet in the slot of its number
+-- the words after putting a packet into the slot of its number
 abbrev pub sentPut : List ℕ → Sent → List ℕ
 sentPut words p = set (set words (p .number % 32) (sentWord p)) (32 + p .number % 32) (sentTime p)
 
@@ -97,7 +97,7 @@ withOutbox o s =
       clocks = s .clocks;
     }
 
--- the lent words and bytes that a write changes
+-- the lent words and bytes, with those that a write changes replaced
 abbrev pub withSent : (sent queue outgoing : List ℕ) → Lent → Lent
 withSent sent queue outgoing l =
     record { sent = sent; held = l .held; queue = queue; outgoing = outgoing; incoming = l .incoming; headers = l .headers }

@@ -1,4 +1,4 @@
-// One piece of a write: whether it goes, its packet stored, its entry queued, and the numbers after it (send_data_packet).
+// One piece of a write: checks whether it goes, stores its packet, queues its entry and updates the numbers (send_data_packet).
 ghost use mathlib.Core.Path.{_≡_};
 ghost use mathlib.Core.List.{_++_};
 ghost use Prim.Native.Nat.{_+_, _*_, _%_, _<_, _≤_};
@@ -26,7 +26,7 @@ pub struct Outbox {
     pub totals: Totals,
 }
 
-// create_header.
+// The Rust's create_header.
 pub fn create_header(typ: u8, remote: u32, seq: u32, ack: u32) -> Header
     ensures { λ r. ⌜ r ≡ headerOf typ remote seq ack ⌝ }
 {
@@ -107,7 +107,7 @@ fn counted_totals(t: Totals, payload: usize) -> Totals
     }
 }
 
-// inflight + payload is at most the window; by a difference, so that no sum can wrap.
+// inflight + payload is at most the window; by subtraction, so that no sum can wrap.
 fn fits(inflight: u32, payload: usize, cwnd: u32) -> bool
     requires { ⌜ payload ≤ 1_380 ⌝ }
     ensures { λ r. ⌜ r ≡ leb (inflight + payload) cwnd ⌝ }
@@ -119,7 +119,7 @@ fn fits(inflight: u32, payload: usize, cwnd: u32) -> bool
     }
 }
 
-// A piece goes: the test of send_data_packet, and 01's ceilings.
+// Whether a piece goes: send_data_packet's test, and 01's ceilings.
 pub fn goes(s: Sender, payload: usize) -> bool
     requires { ⌜ payload ≤ 1_380 ⌝ }
     ensures { λ r. ⌜ r ≡ mayGo s payload ⌝ }
@@ -136,7 +136,7 @@ pub fn goes(s: Sender, payload: usize) -> bool
     false
 }
 
-// The packet of a piece: its bytes in the outgoing store, its record in the words (create_packet, outgoing.insert).
+// Stores the packet of a piece: its bytes in the outgoing store, its record in the words (create_packet, outgoing.insert).
 fn store_packet(sent: &mut [u64; 64], outgoing: &mut [u8], h: Header, piece: &[u8])
     requires { ⌜ (length (now outgoing) ≡ 44_800) × (length (now piece) ≤ 1_380) ⌝ }
     ensures { λ _. ⌜ (now (sent .exit) ≡ sentPut (now (sent .entry)) (newPacket (h .seq) (length (now (piece .entry)))))
@@ -146,7 +146,7 @@ fn store_packet(sent: &mut [u64; 64], outgoing: &mut [u8], h: Header, piece: &[u
     records::put_sent(sent, new_packet(h.seq, piece.len()));
 }
 
-// send_data_packet.
+// The Rust's send_data_packet.
 pub fn send_data_packet(
     o: Outbox,
     remote: u32,

@@ -20,7 +20,7 @@ pub fn bad_use(text: impl Into<String>) -> Failure {
     Failure { status: 2, text }
 }
 
-/// Where the engine refuses what it never should, this program is wrong.
+/// If the engine refuses what it never should, this program has a bug.
 pub fn refused(call: &str) -> impl Fn(Refusal) -> Failure + '_ {
     move |why| failed(format!("{call} was refused with {}", why.number()))
 }

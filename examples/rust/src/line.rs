@@ -1,20 +1,19 @@
-//! A simulated line: it loses datagrams, repeats them and holds them back, by a chance that a seed decides. It stands where a program has
-//! its socket.
+//! A simulated line: by seeded chance it loses datagrams, repeats them and holds them back. It takes the place of a socket.
 use std::cmp::{Ordering, Reverse};
 use std::collections::BinaryHeap;
 
 /// A chance of 100 percent: chances are in millionths of a percent.
 const ALWAYS: u64 = 100_000_000;
-/// A datagram is held back by up to so many nanoseconds.
+/// Nanoseconds that a datagram is held back at most.
 const MOST_HELD: u64 = 100_000_000;
 
-/// A copy of a datagram under way.
+/// A copy of a datagram in transit.
 pub struct Arrival {
     pub time: u64,
-    order: u64, // of two at one time the one that was sent first comes first
+    order: u64, // of two at the same time, the one sent first arrives first
     /// The datagram's number over the whole run.
     pub id: u64,
-    /// The end that it comes to.
+    /// The end that it goes to.
     pub to: usize,
     pub bytes: Vec<u8>,
 }
@@ -61,7 +60,7 @@ pub struct Line {
     random: u64,
     sent: u64, // copies put on the line so far
     under_way: BinaryHeap<Reverse<Arrival>>,
-    spare: Vec<Vec<u8>>, // used again, so that memory is asked for only while the line fills up
+    spare: Vec<Vec<u8>>, // reused, so that memory is allocated only while the line fills up
 }
 
 impl Line {
@@ -93,12 +92,12 @@ impl Line {
         self.below(ALWAYS) < chance
     }
 
-    /// How much longer than the line's delay a copy takes that others are to overtake.
+    /// The extra delay of a copy that others are to overtake.
     fn hold(&mut self) -> u64 {
         1 + self.below(MOST_HELD)
     }
 
-    /// The bytes are copied: the sender's buffer is used again before they come.
+    /// The bytes are copied: the sender's buffer is reused before they arrive.
     fn put(&mut self, time: u64, to: usize, id: u64, datagram: &[u8]) {
         let mut bytes = self.spare.pop().unwrap_or_default();
         bytes.clear();
@@ -114,7 +113,7 @@ impl Line {
         }));
     }
 
-    /// A datagram on its way to an end.
+    /// Sends a datagram to an end.
     pub fn send(&mut self, now: u64, to: usize, id: u64, datagram: &[u8]) -> Fate {
         let habits = self.habits;
         let lost = self.chance(habits.loss);
@@ -132,12 +131,12 @@ impl Line {
         Fate { lost, repeated, held }
     }
 
-    /// When the next datagram comes.
+    /// When the next datagram arrives.
     pub fn next_time(&self) -> Option<u64> {
         self.under_way.peek().map(|Reverse(a)| a.time)
     }
 
-    /// Takes the next arrival from the line, if its time has come; it goes back by `release`.
+    /// Takes the next arrival from the line, if its time has come; `release` gives it back.
     pub fn take(&mut self, now: u64) -> Option<Arrival> {
         if self.next_time()? > now {
             return None;
@@ -149,7 +148,7 @@ impl Line {
         self.spare.push(arrival.bytes);
     }
 
-    /// Copies under way.
+    /// Copies in transit.
     pub fn count(&self) -> usize {
         self.under_way.len()
     }

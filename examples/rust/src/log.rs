@@ -1,10 +1,10 @@
-//! The log of a run: one event a line, times in nanoseconds on the simulated clock.
+//! The log of a run: one event per line, times in nanoseconds on the simulated clock.
 //!
 //! ```text
-//! TIME sent END ID KIND NUMBER BYTES     datagram ID was taken of END; KIND data with its seq, or state with its ack
+//! TIME sent END ID KIND NUMBER BYTES     datagram ID was taken from END; KIND data with its seq, or state with its ack
 //! TIME lost END ID                       the line lost it
-//! TIME came END ID                       it is delivered at END
-//! TIME refused END ID REFUSAL            it came and was refused with this number
+//! TIME came END ID                       it is delivered to END
+//! TIME refused END ID REFUSAL            it arrived and was refused with this number
 //! TIME numbers END WINDOW INFLIGHT RTO   after a drive that changed one of them
 //! TIME timeout END                       a drive found the timer due
 //! TIME failed END                        the stream ended with TimedOut; the next one starts fresh at both ends
@@ -21,13 +21,13 @@ use udx::Stream;
 /// Window, inflight and rto.
 type Numbers = (u32, u32, Duration);
 
-/// A log that may be kept or not.
+/// A log, if one is kept.
 pub struct Log {
     file: Option<(BufWriter<File>, PathBuf)>,
-    last: [Numbers; 2], // of each end, as they were written last
+    last: [Numbers; 2], // of each end, as last written
 }
 
-/// A log in place of the file that is sent would destroy it.
+/// A log written over the file being sent would destroy it.
 fn same_file(path: &Path, other: &Path) -> bool {
     match (metadata(path), metadata(other)) {
         (Ok(a), Ok(b)) => a.dev() == b.dev() && a.ino() == b.ino(),

@@ -1,5 +1,5 @@
 //! A hub and a gateway in one process, over a simulated line that loses, repeats and reorders datagrams. The hub sends samples or a file,
-//! the gateway reads and checks every byte; with `--both` also the other way round. `--help` lists the options; transfer.rs has the loop
+//! the gateway reads and checks every byte; with `--both` also in the other direction. `--help` lists the options; transfer.rs has the loop
 //! to copy. The C program in ../c does the same, and prints the same for the same options.
 mod failure;
 mod line;
@@ -18,7 +18,7 @@ use std::io::{stderr, Write};
 use std::process::ExitCode;
 use transfer::Transfer;
 
-/// Answers whether every byte arrived as it was sent.
+/// Returns whether every byte arrived as it was sent.
 fn run() -> Result<bool, Failure> {
     let options = Options::parse(std::env::args_os().skip(1))?;
     if options.help {
@@ -40,7 +40,7 @@ fn main() -> ExitCode {
         Ok(true) => ExitCode::SUCCESS,
         Ok(false) => ExitCode::FAILURE,
         Err(why) => {
-            // Nobody is left to tell where standard error is closed too.
+            // If standard error is closed too, there is nobody left to tell.
             let _ = writeln!(stderr(), "bad_line: {}", why.text);
             ExitCode::from(why.status)
         }

@@ -3,7 +3,7 @@ use crate::failure::{bad_use, Failure};
 use std::ffi::OsString;
 use std::path::PathBuf;
 
-/// What has decimals is kept in millionths: percent, milliseconds (so nanoseconds) and seconds (so microseconds).
+/// Numbers with decimals are kept in millionths: percent, milliseconds (so nanoseconds) and seconds (so microseconds).
 pub const MILLIONTHS: u64 = 1_000_000;
 
 pub const HELP: &str = "\
@@ -64,7 +64,7 @@ fn is_separator(text: &[u8], at: usize) -> bool {
     matches!(text[at], b'_' | b',') && at > 0 && is_digit(at - 1) && is_digit(at + 1)
 }
 
-/// The whole number at the front of `text`, and where it ends. What is too large stays at the largest number, for the caller to refuse.
+/// The whole number at the front of `text`, and where it ends. A number that is too large saturates, for the caller to refuse.
 fn parse_whole(text: &[u8]) -> (u64, usize) {
     let mut value: u64 = 0;
     for (at, byte) in text.iter().enumerate() {
@@ -110,7 +110,7 @@ fn parse_number(name: &str, text: &str, decimal: bool, most: u64) -> Result<u64,
     Ok(whole * if decimal { MILLIONTHS } else { 1 } + part)
 }
 
-/// The word behind an option.
+/// The word after an option.
 struct Value<'a> {
     name: &'a str,
     words: &'a mut dyn Iterator<Item = OsString>,

@@ -1,4 +1,4 @@
-//! What a run prints: how far it is, on standard error, and its summary, on standard output.
+//! What a run prints: its progress, on standard error, and its summary, on standard output.
 use crate::failure::{failed, Failure};
 use crate::options::{Options, MILLIONTHS};
 use crate::source::Checksum;
@@ -20,12 +20,12 @@ pub fn grouped(n: u64) -> String {
     text
 }
 
-/// A number with decimals, all of them, such as nanoseconds as seconds.
+/// A number with all its decimals, such as nanoseconds as seconds.
 fn with_decimals(n: u64, unit: u64, decimals: usize) -> String {
     format!("{}.{:0decimals$}", grouped(n / unit), n % unit)
 }
 
-/// Millionths, without zeros at the end: an option as it was given.
+/// Millionths, without trailing zeros: an option as it was given.
 fn trimmed(millionths: u64) -> String {
     let text = with_decimals(millionths, MILLIONTHS, 6);
     text.trim_end_matches('0').trim_end_matches('.').to_string()
@@ -66,7 +66,7 @@ impl Watch {
         let percent = if all > 0 { 100.0 * read as f64 / all as f64 } else { 100.0 };
         let speed = megabytes_per_second(read, time);
         let text = format!("{} of {} bytes read, {percent:.1} %, {speed:.1} MB/s", grouped(read), grouped(all));
-        // Where nobody can be told how far it is, the run goes on all the same.
+        // If progress cannot be printed, the run goes on regardless.
         let _ = if self.terminal {
             fmt_stderr(format_args!("\r{text}  "))
         } else {
@@ -76,7 +76,7 @@ impl Watch {
         self.next = time + Duration::from_millis(if self.terminal { 200 } else { 10_000 });
     }
 
-    /// Called often: prints where the run is, and ends it at its limit.
+    /// Called often: prints the run's progress, and ends it at its limit.
     pub fn look(&mut self, transfer: &Transfer) -> Result<(), Failure> {
         let time = self.start.elapsed();
         if self.limit.is_some_and(|limit| time >= limit) {
@@ -196,7 +196,7 @@ impl Summary {
         writeln!(self.text, "{ends}")
     }
 
-    /// Whether what one side sent is what the other read; says where not.
+    /// Whether what one side sent is what the other read; prints where not.
     fn verdict(&mut self, from: &Side, name: &str, to: &Side) -> Result<bool, fmt::Error> {
         if let Some(at) = to.wrong_at {
             writeln!(self.text, "byte {} of what the {name} sent was read as another byte", grouped(at))?;

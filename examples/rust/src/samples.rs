@@ -1,6 +1,6 @@
-//! The hub's samples: a source of bytes that can be made again from any offset.
+//! The hub's samples: a source of bytes that can be generated from any offset.
 //!
-//! A sample has 30 bytes, its numbers are little-endian:
+//! A sample has 30 bytes; its numbers are little-endian:
 //!
 //! | at | bytes | |
 //! |---|---|---|
@@ -12,11 +12,11 @@
 //! | 24 | 4 | battery voltage in mV |
 //! | 28 | 2 | check: the Internet checksum (RFC 1071) of bytes 0 to 27 as 14 little-endian words |
 //!
-//! Sample k depends on k alone, by integer arithmetic, so that a receiver makes the bytes it expects by itself.
+//! Sample k depends only on k, by integer arithmetic, so that a receiver can generate the bytes it expects.
 
 pub const SAMPLE_SIZE: usize = 30;
 
-/// From 0 up to `height` and back in `period` samples: what turns slowly and comes back.
+/// A triangle wave: from 0 up to `height` and back in `period` samples.
 fn swing(k: u64, period: u64, height: u64) -> i32 {
     let (half, x) = (period / 2, k % period);
     ((if x < half { x } else { period - x }) * height / half) as i32
@@ -53,7 +53,7 @@ fn make(k: u64) -> [u8; SAMPLE_SIZE] {
     to
 }
 
-/// The bytes from `offset` on of the endless row of samples `first`, `first + 1`, ..
+/// The bytes from `offset` on of the endless sequence of samples `first`, `first + 1`, ..
 pub fn bytes(first: u64, offset: u64, mut to: &mut [u8]) {
     let mut k = first + offset / SAMPLE_SIZE as u64;
     let mut skip = (offset % SAMPLE_SIZE as u64) as usize;

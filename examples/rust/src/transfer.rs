@@ -1,7 +1,7 @@
 //! The whole transfer: two sides, the line between them, and the simulated clock.
 //!
-//! The loop to copy is [`Transfer::carry_all`] with the functions it calls: the round of a caller of crate `udx`, for two ends at once. In a
-//! program with a socket `line.send` becomes a send, `wait_for_event` a poll with a timeout, and the simulated clock a monotonic one.
+//! The loop to copy is [`Transfer::carry_all`] with the functions it calls: the round of a caller of crate `udx`, for two ends at once.
+//! With a real socket `line.send` becomes a send, `wait_for_event` a poll with a timeout, and the simulated clock a monotonic one.
 use crate::failure::{failed, refused, Failure};
 use crate::line::{Arrival, Habits, Line};
 use crate::log::Log;
@@ -17,11 +17,11 @@ pub const GATEWAY: usize = 1;
 /// Most that a stream accepts before something is acknowledged, and most that a read puts: 32 payloads.
 const FULL_STREAM: usize = 32 * 1380;
 const OUTBOX_ROOM: usize = 6 * FULL_STREAM;
-/// Most datagrams of a batch.
+/// Most datagrams in a batch.
 const SEGMENTS: u8 = 10;
 /// Two are enough: one sends the END, the next finds nothing left.
 const CLOSING_ROUNDS: u32 = 8;
-/// Streams one after another without a byte read: the line carries too little.
+/// Consecutive streams without a byte read: the line carries too little.
 const IDLE_STREAMS: u64 = 1000;
 /// Rounds between two looks at the wall clock.
 const WATCH_EVERY: u64 = 256;
@@ -53,7 +53,7 @@ impl Outbox {
         self.next - self.waiting().len() as u64
     }
 
-    /// Enough for a whole window is kept ready, so that no packet is cut short by the end of the buffer.
+    /// Keeps enough ready for a whole window, so that no packet is cut short by the end of the buffer.
     fn fill(&mut self, source: &Source) -> Result<(), Failure> {
         let waiting = self.waiting().len();
         let left = source.length() - self.next;
@@ -72,7 +72,7 @@ impl Outbox {
 
 #[derive(Default)]
 pub struct Counts {
-    pub bytes_again: u64, // written once more, on a stream opened afresh
+    pub bytes_again: u64, // written again, on a fresh stream
     pub data: u64,        // packets taken: with data for the first time, again, and without
     pub resent: u64,
     pub states: u64,
@@ -90,7 +90,7 @@ pub struct Side {
     pub source: Source,
     outbox: Outbox,
     next_data: u32, // number of the next data packet that is sent for the first time
-    pub sent: u64,  // bytes of the own source accepted at least once
+    pub sent: u64,  // bytes of its own source accepted at least once
     pub read: u64,  // bytes of the other side's source read
     pub of_sent: Checksum,
     pub of_read: Checksum,
@@ -130,7 +130,7 @@ impl Side {
         })
     }
 
-    /// Compares with the source, made again at this offset: what is wrong is found at its first byte.
+    /// Compares with the source, generated again at this offset, and finds the first wrong byte.
     fn check_bytes(&mut self, from: &Source, got: &[u8], expected: &mut [u8]) -> Result<(), Failure> {
         if got.len() as u64 > from.length() - self.read {
             return Err(failed("more bytes were read than were sent"));
@@ -143,7 +143,7 @@ impl Side {
         Ok(())
     }
 
-    /// Counts a packet by its header; new ones come in the order of their numbers. Answers whether it has data.
+    /// Counts a packet by its header; new ones come in the order of their numbers. Returns whether it has data.
     fn count_packet(&mut self, header: &Header) -> bool {
         let is_data = header.typ & Header::DATA != 0;
         if !is_data {
@@ -157,7 +157,7 @@ impl Side {
         is_data
     }
 
-    /// The checksum takes each byte once, also where a fresh stream sends it again.
+    /// The checksum counts each byte once, even if a fresh stream sends it again.
     fn note_written(&mut self, count: usize) {
         let known = (self.sent - self.outbox.offset()).min(count as u64) as usize;
         self.of_sent.add(&self.outbox.waiting()[known..count]);
@@ -166,7 +166,7 @@ impl Side {
         self.outbox.start += count;
     }
 
-    /// Answers whether anything was accepted: then there is something new to drive.
+    /// Returns whether anything was accepted: then there is something new to drive.
     fn write_more(&mut self) -> Result<bool, Failure> {
         self.outbox.fill(&self.source)?;
         if self.outbox.waiting().is_empty() || self.stream.error().is_some() {
@@ -181,7 +181,7 @@ impl Side {
         }
     }
 
-    /// Whether the timer runs and its deadline has come.
+    /// Whether the timer is running and due.
     fn is_due(&self, clock: u64) -> bool {
         self.stream
             .deadline()
@@ -189,7 +189,7 @@ impl Side {
     }
 }
 
-/// Ids that no earlier stream had, so that what of those is still under way is refused.
+/// Ids that no earlier stream had, so that datagrams still on the line are refused.
 fn open_stream(number: u64, end: usize, clock: u64) -> Result<Stream, Failure> {
     let first = 2 * number as u32 + 1;
     let (local, remote) = (first + end as u32, first + 1 - end as u32);
@@ -242,9 +242,9 @@ impl Transfer {
         Duration::from_nanos(self.clock)
     }
 
-    // 1. What came in is delivered and read.
+    // 1. Deliver and read what came in.
 
-    /// Reads until a read puts nothing. A read puts bytes whatever it answers, so the count is looked at in each case, and the error last.
+    /// Reads until a read puts nothing. A read can put bytes whatever it returns, so the count is checked in each case, and the error last.
     fn read_all(&mut self, i: usize) -> Result<(), Failure> {
         let [hub, gateway] = &mut self.sides;
         let (side, other) = if i == HUB { (hub, gateway) } else { (gateway, hub) };
@@ -262,7 +262,7 @@ impl Transfer {
         }
     }
 
-    /// A refused datagram is dropped: it is of an earlier stream, or it comes again. Any other refusal would be a mistake of this program.
+    /// A refused datagram is dropped: it belongs to an earlier stream, or will be resent. Any other refusal would be a bug in this program.
     fn deliver(&mut self, arrival: &Arrival) -> Result<(), Failure> {
         let (now, side) = (self.now(), &mut self.sides[arrival.to]);
         let answer = side.stream.deliver(&arrival.bytes, now);
@@ -280,7 +280,7 @@ impl Transfer {
         }
     }
 
-    /// Everything that has come by now, then one read: bytes are read before the stream can fail.
+    /// Delivers everything that has arrived by now, then reads: bytes are read before the stream can fail.
     fn deliver_arrived(&mut self) -> Result<(), Failure> {
         while let Some(arrival) = self.line.take(self.clock) {
             self.deliver(&arrival)?;
@@ -294,9 +294,9 @@ impl Transfer {
         Ok(())
     }
 
-    // 2. and 3. A drive decides what goes out, and all of it is taken and sent.
+    // 2. and 3. Drive, which decides what goes out; take and send all of it.
 
-    /// A drive settles first, and what it settles starts the timer again: the timer was due only if nothing left the store.
+    /// A drive settles first, and settling restarts the timer: the timer was due only if nothing left the store.
     fn drive(&mut self, i: usize) -> Result<(), Failure> {
         let (now, side) = (self.now(), &mut self.sides[i]);
         let due = side.is_due(self.clock);
@@ -309,7 +309,7 @@ impl Transfer {
         self.log.numbers(self.clock, i, &side.stream)
     }
 
-    /// Here a program with a socket sends.
+    /// A program with a socket sends here.
     fn send_datagram(&mut self, from: usize, datagram: &[u8]) -> Result<(), Failure> {
         let (id, side) = (self.datagrams, &mut self.sides[from]);
         self.datagrams += 1;
@@ -327,7 +327,7 @@ impl Transfer {
         Ok(())
     }
 
-    /// Until a take answers `None`, writes, deliveries, drives and closes are refused.
+    /// Until a take returns `None`, writes, deliveries, drives and closes are refused.
     fn send_all(&mut self, from: usize) -> Result<(), Failure> {
         let mut buf = std::mem::take(&mut self.batch); // its own variable while self sends
         while let Some(batch) = self.sides[from].stream.take(&mut buf).map_err(refused("take"))? {
@@ -339,7 +339,7 @@ impl Transfer {
         Ok(())
     }
 
-    /// A drive that settles makes room in the window. So what waits is written after it, and what was written needs a drive again.
+    /// A drive that settles makes room in the window. So what is pending is written after it, and then needs another drive.
     fn drive_and_send(&mut self, i: usize) -> Result<(), Failure> {
         self.sides[i].woken = false;
         loop {
@@ -362,7 +362,7 @@ impl Transfer {
 
     // 4. Nothing is left to do at this clock: wait.
 
-    /// The next arrival or the next deadline. A stream has a deadline only while something is not acknowledged.
+    /// The next arrival or the next deadline. A stream has a deadline only while something is unacknowledged.
     fn wait_for_event(&mut self) -> Result<(), Failure> {
         let deadlines = self.sides.iter().filter_map(|side| side.stream.deadline());
         let arrival = self.line.next_time().map(Duration::from_nanos);
@@ -372,9 +372,9 @@ impl Transfer {
         Ok(())
     }
 
-    // What a stream needs around its rounds: opening, failing, the end.
+    // What a stream needs besides its rounds: opening, failing, ending.
 
-    /// A line that lets nothing through would go on for ever.
+    /// On a line that lets nothing through the run would never end.
     fn stop_if_idle(&mut self) -> Result<(), Failure> {
         let read = self.bytes_read();
         let idle = self.streams > 0 && read == self.read_at_open;
@@ -389,7 +389,7 @@ impl Transfer {
         Ok(())
     }
 
-    /// Each direction goes on at the first byte that its receiver has not read; over a real line the receiver tells the sender that offset.
+    /// Each direction continues at the first byte that its receiver has not read; on a real line the receiver tells the sender that offset.
     fn open_streams(&mut self) -> Result<(), Failure> {
         self.stop_if_idle()?;
         for i in [HUB, GATEWAY] {
@@ -411,14 +411,14 @@ impl Transfer {
             .position(|side| side.stream.error() == Some(StreamError::TimedOut))
     }
 
-    /// Only then may a side close: its close would be the end of what is not acknowledged.
+    /// Only then may a side close: what is not acknowledged could be lost.
     fn all_acknowledged(&self) -> bool {
         let [hub, gateway] = &self.sides;
         let all_read = gateway.read == hub.source.length() && hub.read == gateway.source.length();
         all_read && self.sides.iter().all(|side| side.stream.deadline().is_none())
     }
 
-    /// The whole transfer. A stream that fails on a bad line is normal: what was read is right, and a fresh one carries the rest.
+    /// The whole transfer. On a bad line it is normal for a stream to fail: what was read is right, and a fresh one carries the rest.
     pub fn carry_all(&mut self, watch: &mut Watch) -> Result<(), Failure> {
         self.open_streams()?;
         for round in 1u64.. {
@@ -439,7 +439,7 @@ impl Transfer {
         Ok(())
     }
 
-    /// A drive answers `Done` once the END has been taken and nothing is left to send again.
+    /// A drive returns `Done` once the END has been taken and nothing is left to resend.
     fn drive_until_done(&mut self, i: usize) -> Result<bool, Failure> {
         for _ in 0..CLOSING_ROUNDS {
             let now = self.now();
@@ -451,7 +451,7 @@ impl Transfer {
         Ok(false)
     }
 
-    /// Both sides close: an END that the line loses is not sent again, so neither waits for the other's.
+    /// Both sides close: an END that the line loses is not resent, so neither waits for the other's.
     pub fn close_both(&mut self) -> Result<(), Failure> {
         for side in &mut self.sides {
             side.stream.close().map_err(refused("close"))?;

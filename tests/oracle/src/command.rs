@@ -15,7 +15,7 @@ pub fn take(end: usize) -> Vec<u8> {
     vec![0x03, end as u8]
 }
 
-/// To the end that receives, datagram `number` of the other one's.
+/// Hands datagram `number` of the other end to the receiving end.
 pub fn hand(end: usize, number: usize, clock: u64) -> Vec<u8> {
     [&[0x04, end as u8][..], &(number as u16).to_le_bytes(), &clock.to_le_bytes()].concat()
 }
@@ -78,7 +78,7 @@ pub fn datagram(fields: Fields, payload: &[u8]) -> Vec<u8> {
     bytes
 }
 
-/// The payload of a SACK datagram: its blocks, and `after` bytes more. The last block counts only if some follow.
+/// The payload of a SACK datagram: its blocks, and `after` more bytes. The last block counts only if bytes follow it.
 pub fn blocks(blocks: &[(u32, u32)], after: usize) -> Vec<u8> {
     let mut bytes = Vec::new();
     for (start, end) in blocks {

@@ -1,4 +1,4 @@
-//! The live comparison: scripts go to a program and to the original, and every line has to be the same.
+//! The live comparison: scripts go to a program and to the original, and every line must be the same.
 
 use crate::engine::ORIGINAL;
 use crate::generate;
@@ -13,14 +13,14 @@ use std::sync::Mutex;
 use std::sync::atomic::{AtomicBool, AtomicU64, Ordering};
 use std::time::{Duration, Instant};
 
-/// Fewest bytes of a script that might not fit a pipe.
+/// The least bytes of a script that might not fit a pipe.
 const PIPE: usize = 60_000;
 /// Most programs started to shorten one script.
 const MAX_TRIES: usize = 4_000;
-/// Fewest random scripts that say anything.
+/// The fewest random scripts that mean anything.
 const FEW: u64 = 200;
 
-/// The lines of a program under test; an end other than status 0 is a line of its own, which no reference has.
+/// The lines of a program under test; a status other than 0 is a line of its own, which no reference has.
 pub fn port(program: &Path, bytes: &[u8]) -> Result<Vec<u8>, String> {
     let failed = |error: std::io::Error| format!("{}: {error}", program.display());
     let program = &program.canonicalize().map_err(failed)?;
@@ -55,7 +55,7 @@ pub struct Plan<'a> {
     pub program: &'a Path,
 }
 
-/// True where every script agreed. Named scripts come first, then random ones from the seed on.
+/// Whether every script agreed. Named scripts come first, then random ones from the seed on.
 pub fn compare(plan: &Plan) -> Result<bool, String> {
     let Plan { kind, program, .. } = *plan;
     let named: Vec<_> = named::all().into_iter().filter(|one| one.kind == kind && !one.slow).collect();
@@ -138,7 +138,7 @@ pub fn compare(plan: &Plan) -> Result<bool, String> {
     }
 }
 
-/// True where the original gives every recorded line: a file that was recorded from anything else is noticed.
+/// Whether the original gives every recorded line: notices a file that was recorded from anything else.
 pub fn recorded(list: &[Recorded]) -> Result<bool, String> {
     let list: Vec<_> = list.iter().filter(|one| !walks_far(one)).collect();
     if list.is_empty() {
@@ -154,7 +154,7 @@ pub fn recorded(list: &[Recorded]) -> Result<bool, String> {
     Ok(true)
 }
 
-/// True where the program prints every recorded line.
+/// Whether the program prints every recorded line.
 pub fn replay(list: &[Recorded], kind: Kind, program: &Path) -> Result<bool, String> {
     let mut count = 0;
     for (_, bytes, lines) in list.iter().filter(|(of, _, _)| *of == kind) {
@@ -221,7 +221,7 @@ pub fn shrink(kind: Kind, bytes: &[u8], differs: &mut dyn FnMut(&[u8]) -> Result
             size = size.div_ceil(2).max(1);
         }
     }
-    // Operands, not the command nor its end: the highest bytes first, so that a number gets small.
+    // Operands, but not the command or its end: the highest bytes first, so that numbers get small.
     for index in 0..parts.len() {
         for at in (2..parts[index].len()).rev() {
             if parts[index][at] == 0 || tries >= MAX_TRIES {

@@ -57,7 +57,7 @@ impl Direct {
 }
 
 impl Locked<'_> {
-    /// The bytes accepted, 0 where it has to wait.
+    /// The bytes accepted, 0 if it has to wait.
     pub fn write(&mut self, bytes: &[u8]) -> usize {
         match Pin::new(&mut *self.inner).poll_write(&mut context(), bytes) {
             Poll::Ready(count) => count.expect("a stream without an error"),

@@ -13,7 +13,7 @@ const STORE_SLOTS: u32 = 32;
 const LAST_NUMBER: u32 = u32::MAX;
 const MAX_BATCH: usize = 14_000;
 const WINDOW_MAX: usize = u32::MAX as usize;
-/// Fewest state packets queued at which a delivery, and a close, is refused.
+/// The fewest queued state packets at which a delivery, and a close, is refused.
 const DELIVER_STATES: usize = 62;
 const CLOSE_STATES: usize = 63;
 
@@ -66,7 +66,7 @@ fn decode(bytes: &[u8]) -> Option<Fields> {
     })
 }
 
-/// 14, 15 and 16 as the original's own answer.
+/// 14, 15 and 16, the original's own answer.
 fn refusal_of(error: &io::Error) -> Outcome {
     Outcome::Refused(match error.kind() {
         io::ErrorKind::ConnectionReset => 14,
@@ -376,7 +376,7 @@ impl End for Stream {
         copy.drive_clock = self.drive_clock;
         copy.ended = self.ended;
         let mut to = copy.inner();
-        // A packet that stands in several places is one packet in the copy too.
+        // A packet that is in several places is one packet in the copy too.
         let mut copies: HashMap<*const Packet, Arc<Packet>> = HashMap::new();
         let mut shared = |packet: &Arc<Packet>| {
             copies.entry(Arc::as_ptr(packet)).or_insert_with(|| Arc::new(copy_packet(packet))).clone()

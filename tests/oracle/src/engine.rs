@@ -1,6 +1,6 @@
-//! What a script asks of an end, whichever version of the original stands behind it.
+//! What a script needs of an end, whichever version of the original is behind it.
 
-/// What a call answers. `Refused` has 01's number.
+/// What a call returns. `Refused` has 01's number.
 #[derive(Debug, Clone, Copy, PartialEq, Eq, Hash)]
 pub enum Outcome {
     Ok,
@@ -25,11 +25,11 @@ impl std::fmt::Display for Outcome {
 pub struct Taken {
     pub outcome: Outcome,
     pub bytes: Vec<u8>,
-    /// 0 where the batch has none.
+    /// 0 if the batch has none.
     pub segment: usize,
 }
 
-/// A stored packet, as the generator looks at it.
+/// A stored packet, as the generator sees it.
 pub struct Stored {
     pub number: u32,
     pub length: usize,

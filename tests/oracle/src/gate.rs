@@ -1,4 +1,4 @@
-//! The socket's part of a delivery: process_packet of a socket that knows one stream, and no socket behind it.
+//! The socket's part of a delivery: process_packet of a socket that knows one stream, with no UDP socket behind it.
 
 use super::*;
 
@@ -35,8 +35,8 @@ impl UdxSocketInner {
         sets
     }
 
-    /// False where process_packet hands the datagram back: no header, or no stream with that id. Else the packet stands in the
-    /// stream's channel.
+    /// False if process_packet hands the datagram back: no header, or no stream with that id. Else the packet is in the stream's
+    /// channel.
     pub(crate) fn accepts(&mut self, datagram: &[u8]) -> bool {
         self.process_packet(datagram.into(), &RecvMeta::default()).is_ok()
     }

@@ -25,7 +25,7 @@ const MAX_LINES: usize = 55_000;
 enum Profile {
     /// Both ends talk; datagrams get lost, repeated and reordered.
     Traffic,
-    /// One end is heard by nobody until it gives up.
+    /// Nobody hears one end, until it gives up.
     Silence,
     /// State packets pile up.
     Flood,
@@ -53,7 +53,7 @@ enum Profile {
     Borders,
 }
 
-/// Those that a session can follow stand first.
+/// Those that a session can follow come first.
 const PROFILES: [Profile; 14] = [
     Profile::Traffic,
     Profile::Silence,
@@ -80,7 +80,7 @@ pub struct Script {
     pub bytes: Vec<u8>,
     pub lines: Vec<u8>,
     pub features: Vec<Feature>,
-    /// The deep states that it came through.
+    /// The deep states that it reached.
     pub reached: BTreeSet<&'static str>,
 }
 
@@ -196,7 +196,7 @@ impl Writer {
         self.random.below(2) as usize
     }
 
-    /// The numbers of both ends after all, then in some scripts a command that ends the run.
+    /// Finally the numbers of both ends, then in some scripts a command that ends the run.
     fn finish(mut self) -> Script {
         if self.kind == Kind::Drill {
             self.put_past(command::numbers(0));

@@ -7,13 +7,13 @@ use crate::script::{self, Kind};
 use crate::{mutants, mutations, named};
 use std::panic::{AssertUnwindSafe, catch_unwind};
 
-/// A panic of the wrong version is noticed too.
+/// A panic of the wrong version counts as noticed.
 fn differs((kind, bytes, lines): &Recorded, engine: Engine) -> bool {
     catch_unwind(AssertUnwindSafe(|| session_script::run(*kind, bytes, engine))).map_or(true, |ours| ours != *lines)
 }
 
 /// Prints for each mutation how many random scripts it took, from the seed on, and how many named and recorded ones notice it.
-/// True where each one was noticed by a random drill, by a named script and, where there are any, by a recorded one.
+/// Returns whether each one was noticed by a random drill, by a named script and, where there are any, by a recorded one.
 pub fn hunt(seed: u64, count: u64, recorded: &[Recorded]) -> bool {
     std::panic::set_hook(Box::new(|_| {}));
     let batch = |kind| -> Vec<Recorded> {

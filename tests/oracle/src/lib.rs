@@ -1,7 +1,7 @@
 //! The original stream core (datrs/async-udx) under a stepped nanosecond clock, with 01's ceilings and refusals in front of it.
 //!
-//! build.rs writes `original.rs`, which names the original's files where they stand: nothing of them is copied. The shims below
-//! are reached under the names of the crates that the original asks for.
+//! build.rs writes `original.rs`, which includes the original's files in place: nothing of them is copied. The shims below
+//! are reached under the names of the crates that the original uses.
 
 extern crate self as atomic_instant;
 extern crate self as bytes;

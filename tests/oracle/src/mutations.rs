@@ -1,11 +1,11 @@
 //! Wrong versions of the original, each one small change of its text (or of the ceilings and stand-ins in front of it, end.rs).
-//! Used by build.rs, which applies them, and by `oracle mutants`, which tells how soon each is noticed.
+//! Used by build.rs, which applies them, and by `oracle mutants`, which prints how soon each is noticed.
 
 pub struct Mutation {
     #[allow(dead_code)]
     pub name: &'static str,
     pub file: &'static str,
-    /// Stands in the file exactly once.
+    /// Occurs in the file exactly once.
     pub from: &'static str,
     pub to: &'static str,
 }
@@ -124,7 +124,7 @@ pub const ALL: &[Mutation] = &[
     ),
     packet("a header of 20 bytes refused", "buf.len() < UDX_HEADER_SIZE ||", "buf.len() <= UDX_HEADER_SIZE ||"),
     packet("the offset byte not written", "buf[3..4].copy_from_slice(&(self.data_offset as u8).to_le_bytes());", ""),
-    // What stands in front of the original
+    // What is in front of the original
     end("a delivery at 62 state packets", "DELIVER_STATES: usize = 62", "DELIVER_STATES: usize = 63"),
     end("a close at 62 state packets refused", "CLOSE_STATES: usize = 63", "CLOSE_STATES: usize = 62"),
     end("data at read cursor + 32", "inner.read_cursor as u64 + STORE_SLOTS as u64", "inner.read_cursor as u64 + 33"),

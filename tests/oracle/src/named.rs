@@ -1,5 +1,5 @@
-//! Scripts written by hand: 01's example, its edges, every refusal at its boundary. They are compared first, but for the slow one, and
-//! recorded where they fit.
+//! Scripts written by hand: 01's example, its edges, every refusal at its boundary. They are compared first, except the slow one, and
+//! recorded if they fit.
 
 mod drill;
 mod session;

@@ -1,4 +1,4 @@
-//! Seeded numbers: splitmix64, so that a script is made again from its seed.
+//! Seeded numbers: splitmix64, so that a script can be generated again from its seed.
 
 pub struct Random(u64);
 

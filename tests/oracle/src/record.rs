@@ -1,4 +1,4 @@
-//! The recorded scripts: named ones, and random ones chosen for what they come through, with the original's lines.
+//! The recorded scripts: named ones, and random ones chosen for the states they reach, with the original's lines.
 
 use crate::engine::ORIGINAL;
 use crate::generate::{self, Feature, Script};
@@ -8,7 +8,7 @@ use std::collections::HashSet;
 
 /// Random scripts of each kind to choose from.
 const CANDIDATES: u64 = 12_000;
-/// Bytes of the whole file, and how they are shared out: what the named scripts leave, in this part to the session's.
+/// Bytes of the whole file, and the session scripts' share of what the named ones leave.
 const MAX_FILE: usize = 3_000_000;
 const SESSION_SHARE: (usize, usize) = (2, 5);
 const MAX_ANSWER: usize = 60_000;
@@ -64,7 +64,7 @@ pub fn file() -> Vec<u8> {
     file
 }
 
-/// Greedily: in each round the shortest scripts first, and only those that bring many new features for their size; then fewer.
+/// Greedily: in each round the shortest scripts first, and only those that add many new features for their size; then fewer.
 fn choose(kind: Kind, budget: usize) -> (Vec<Record>, usize, usize) {
     let mut candidates: Vec<Option<Script>> = (0..CANDIDATES).map(|seed| Some(generate::script(kind, seed))).collect();
     candidates.sort_by_key(|one| one.as_ref().map(|one| one.bytes.len() + one.lines.len()));
@@ -96,7 +96,7 @@ fn choose(kind: Kind, budget: usize) -> (Vec<Record>, usize, usize) {
 /// A script and its lines.
 pub type Recorded = (Kind, Vec<u8>, Vec<u8>);
 
-/// The original would walk over billions of numbers in it.
+/// Whether the original would walk over billions of numbers in it.
 pub fn walks_far((kind, bytes, _): &Recorded) -> bool {
     session_script::commands(*kind, bytes).windows(2).any(|pair| session_script::walks_far(&bytes[pair[0]..pair[1]]))
 }

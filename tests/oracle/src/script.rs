@@ -60,7 +60,7 @@ pub fn commands(kind: Kind, script: &[u8]) -> Vec<usize> {
     offsets
 }
 
-/// A raw delivery whose SACK blocks name so many numbers that the original, which walks over all of them, takes seconds.
+/// Whether a raw delivery's SACK blocks name so many numbers that the original, which walks over all of them, takes seconds.
 pub fn walks_far(command: &[u8]) -> bool {
     const HEADER: usize = 12;
     const PAYLOAD: usize = HEADER + 20;
@@ -78,7 +78,7 @@ pub struct Step {
     pub length: usize,
     pub command: &'static str,
     pub outcome: Outcome,
-    /// Bytes taken, where the command takes.
+    /// Bytes taken, if the command takes.
     pub count: usize,
 }
 
@@ -91,7 +91,7 @@ pub struct Run {
     count: usize,
 }
 
-/// A command's operands, read from its first byte on. A short one reads as none.
+/// A command's operands, read from its first byte on. A short one reads as `None`.
 struct Operands<'a> {
     kind: Kind,
     bytes: &'a [u8],
@@ -125,7 +125,7 @@ impl<'a> Operands<'a> {
     fn end(&mut self) -> Option<usize> {
         self.byte().filter(|end| *end <= 1).map(usize::from)
     }
-    /// The command's length, where its bytes are all there: for cutting a script, so no operand is judged.
+    /// The command's length, if all its bytes are there: for cutting a script, so operands are not checked.
     fn length(&mut self) -> Option<usize> {
         let command = self.byte()?;
         let width = match command {
@@ -172,7 +172,7 @@ impl Run {
         Self { kind, engine, ends: [open(1, 2), open(2, 1)], kept: Default::default(), count: 0 }
     }
 
-    /// Runs the command that stands first, none where it ends the run.
+    /// Runs the first command; `None` if it ends the run.
     pub fn step(&mut self, script: &[u8]) -> Option<Step> {
         let mut ops = Operands::new(self.kind, script);
         let command = ops.byte()?;
@@ -222,7 +222,7 @@ impl Run {
         })
     }
 
-    /// Takes a batch and keeps its datagrams: its pieces of segment size, or all of it where it has none; none of an empty one.
+    /// Takes a batch and keeps its datagrams: its pieces of segment size, or all of it if it has none; none of an empty one.
     fn take(&mut self, end: usize, room: usize) -> (Outcome, usize, usize, u64) {
         let taken = self.ends[end].take(room);
         let size = if taken.segment == 0 { taken.bytes.len().max(1) } else { taken.segment };
@@ -316,8 +316,8 @@ impl Run {
         })
     }
 
-    /// One call on a copy with one thing broken. Every call is lent all three stores and tests every rule, open the lengths
-    /// alone; the original has neither stores nor rules, so its answer is asked for only where nothing is broken for the call.
+    /// One call on a copy with one thing broken. Every call is lent all three stores and checks every rule, open only the
+    /// lengths; the original has neither stores nor rules, so it is called only where nothing is broken for the call.
     fn spoil(&self, end: usize, which: u8, call: u8, clock: u64) -> Outcome {
         const OPEN: u8 = 0;
         const LOOK: u8 = 7;

@@ -223,7 +223,7 @@ impl<T> Mutex<T> {
     }
 }
 
-/// bytes: shared bytes, bytes that are cut, and `put_slice` on a Vec.
+/// bytes: shared bytes, bytes that can be cut, and `put_slice` on a Vec.
 #[derive(Debug, Clone)]
 pub struct Bytes(std::sync::Arc<[u8]>);
 #[derive(Debug)]
@@ -297,7 +297,7 @@ impl AtomicInstant {
     }
 }
 
-/// udx_udp: no socket is opened; only its segment ceiling is ever asked for.
+/// udx_udp: no socket is opened; only its segment ceiling is ever used.
 pub mod udp {
     use std::io::{self, IoSliceMut};
     use std::net::{IpAddr, Ipv4Addr, SocketAddr};

@@ -1,4 +1,4 @@
-//! How often each command answered what.
+//! Counts how often each command gave each answer.
 
 use crate::engine::Outcome;
 use crate::generate::Script;
@@ -8,7 +8,7 @@ use std::fmt;
 #[derive(Default)]
 pub struct Table {
     answers: BTreeMap<(&'static str, u8), u64>,
-    /// Scripts that came through each deep state.
+    /// Scripts that reached each deep state.
     reached: BTreeMap<&'static str, u64>,
 }
 

@@ -1,4 +1,4 @@
--- bench_path::deliver is safe and ends: at most 128 turns.
+-- `bench_path::deliver` is safe and terminates: at most 128 turns.
 use Prim.Native.Nat.{_-_}
 use mathlib.Core.Path.{_≡_}
 use native.Mathlib.Omega.{arith}

@@ -1,4 +1,4 @@
--- bench_path::read is safe and ends: at most 33 turns.
+-- `bench_path::read` is safe and terminates: at most 33 turns.
 use Prim.Native.Nat.{_-_}
 use mathlib.Core.Path.{_≡_}
 use borrow.Author.Needs.{needs}

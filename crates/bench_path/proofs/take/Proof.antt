@@ -1,4 +1,4 @@
--- bench_path::take is safe and ends: at most 14 turns.
+-- `bench_path::take` is safe and terminates: at most 14 turns.
 use Prim.Native.Nat.{_-_}
 use mathlib.Core.Path.{_≡_}
 use borrow.Author.Needs.{needs}

@@ -1,4 +1,4 @@
--- bench_path::write is safe and ends: at most 32 turns.
+-- `bench_path::write` is safe and terminates: at most 32 turns.
 use Prim.Native.Nat.{_-_}
 use mathlib.Core.Path.{_≡_}
 use borrow.Author.Needs.{needs}

@@ -1,4 +1,4 @@
--- `close_state::counted_state` meets its contract: the sum that wraps is the callee's.
+-- `close_state::counted_state` meets its contract: the wrapping sum is the callee's.
 use borrow.Author.Needs.{needs}
 use Rattle.close_state.proofs.counted_state.Statement.{statement}
 use Rattle.close_state.proofs.counted_state.Tie as tie

@@ -1,4 +1,4 @@
--- `close_state::remote_ended` meets its contract: the state is what `close_remote` makes of it, the error stays.
+-- `close_state::remote_ended` meets its contract: the state is `close_remote`'s, and the error stays.
 use borrow.Author.Needs.{needs}
 use Rattle.close_state.proofs.remote_ended.Statement.{statement}
 use Rattle.close_state.proofs.remote_ended.Tie as tie

@@ -1,5 +1,5 @@
--- `close_state::send_state_packet` meets its contract: each part is what one callee says of it, with the header and the entry that were made
--- put in; what is seen then is a law over these parts.
+-- `close_state::send_state_packet` meets its contract: each part is what one callee ensures, for the header and the entry just made; what
+-- is then seen is a law over these parts.
 use borrow.Author.Needs.{needs}
 use Rattle.close_state.proofs.StatePacket.{state-queued}
 use Rattle.close_state.proofs.send_state_packet.Statement.{statement}

@@ -1,4 +1,4 @@
--- `close_state::state_header` meets its contract: each part is what one callee says of it.
+-- `close_state::state_header` meets its contract: each part is what one callee ensures.
 use borrow.Author.Needs.{needs}
 use Rattle.close_state.proofs.state_header.Statement.{statement}
 use Rattle.close_state.proofs.state_header.Tie as tie

@@ -1,4 +1,4 @@
--- `close_state::terminated` meets its contract: the state is what `close_local` makes of it, the error the one given.
+-- `close_state::terminated` meets its contract: the state is `close_local`'s, and the error is the one given.
 use borrow.Author.Needs.{needs}
 use Rattle.close_state.proofs.terminated.Statement.{statement}
 use Rattle.close_state.proofs.terminated.Tie as tie

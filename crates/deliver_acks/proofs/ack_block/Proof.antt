@@ -1,4 +1,4 @@
--- `deliver_acks::ack_block` meets its contract: the run over the block's numbers of the window is the run over all of its numbers.
+-- `deliver_acks::ack_block` meets its contract: the run over the block's numbers in the window is the run over all of its numbers.
 use borrow.Author.Needs.{needs}
 use Rattle.deliver_acks.proofs.AckRun.{span-window, span-acked}
 use Rattle.deliver_acks.proofs.ack_block.Statement.{statement}

@@ -1,4 +1,4 @@
--- `deliver_acks::ack_numbers` meets its contract. The loop's invariant is `Running`; the numbers that are left fall.
+-- `deliver_acks::ack_numbers` meets its contract. The loop's invariant is `Running`; the count of numbers left falls.
 use Prim.Native.Nat.{_-_}
 use native.Mathlib.Omega.{arith}
 use borrow.Author.Needs.{needs}

@@ -1,4 +1,4 @@
--- `deliver_acks::handle_incoming_sacks` meets its contract. The loop's invariant is `Sacking`; the bytes that are left fall.
+-- `deliver_acks::handle_incoming_sacks` meets its contract. The loop's invariant is `Sacking`; the count of bytes left falls.
 use Prim.Native.Nat.{_-_}
 use native.Mathlib.Omega.{arith}
 use lib.ListN.{length}

@@ -1,4 +1,4 @@
--- `deliver_acks::handle_remote_ack` meets its contract: the two laws of AckOne, for a packet that is stored and one that is not.
+-- `deliver_acks::handle_remote_ack` meets its contract: AckOne has one law for a stored packet and one for a missing packet.
 use mathlib.Core.Path.{sym, _∙_}
 use borrow.Author.Needs.{needs}
 use Rattle.deliver_acks.proofs.AckOne.{acks-stored, acks-absent}

@@ -1,4 +1,4 @@
--- `deliver_data::absorb` meets its contract: DATA that is older than ack only moves ack, other DATA is held first. Each is one law, of what
+-- `deliver_data::absorb` meets its contract: DATA below ack is not held, other DATA is; then ack moves. One law for each case combines what
 -- the calls ensure.
 use borrow.Author.Needs.{needs}
 use Rattle.deliver_data.proofs.AbsorbLaws.{absorbs-old, absorbs-new}

@@ -1,4 +1,4 @@
--- `deliver_data::clear_gap` meets its contract. The loop's invariant is `Clearing`, up to the larger of top and n; what is left to n falls.
+-- `deliver_data::clear_gap` meets its contract. The loop's invariant is `Clearing`, up to the larger of top and n; the distance to n falls.
 use borrow.Author.Needs.{needs}
 use Prim.Native.Nat.{_-_, _≤_, max}
 use native.Mathlib.Omega.{arith}

@@ -1,5 +1,5 @@
--- `deliver_data::in_order` meets its contract. The loop's invariant is `Advancing`: the model's steps from here give what they give from
--- the start. What is left to top falls.
+-- `deliver_data::in_order` meets its contract. The loop's invariant is `Advancing`: the model's steps left from here give its whole result.
+-- The distance to top falls.
 use borrow.Author.Needs.{needs}
 use Prim.Native.Nat.{_-_}
 use mathlib.Core.Path.{sym, _∙_}

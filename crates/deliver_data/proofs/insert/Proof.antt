@@ -1,5 +1,5 @@
--- `deliver_data::insert` meets its contract: the gap's words are cleared, then the packet's word and its bytes are put, and top passes its
--- number. One law, of what the calls ensure.
+-- `deliver_data::insert` meets its contract: the gap's words are cleared, the packet's word and bytes are put, and top passes its number.
+-- One law combines what the calls ensure.
 use borrow.Author.Needs.{needs}
 use Rattle.deliver_data.proofs.AbsorbLaws.{inserts}
 use Rattle.deliver_data.proofs.insert.Statement.{statement}

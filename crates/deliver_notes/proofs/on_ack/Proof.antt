@@ -1,4 +1,4 @@
--- `deliver_notes::on_ack` meets its contract: both numbers are the callees'.
+-- `deliver_notes::on_ack` meets its contract: both new numbers come from the callees.
 use borrow.Author.Needs.{needs}
 use Rattle.deliver_notes.proofs.on_ack.Statement.{statement}
 use Rattle.deliver_notes.proofs.on_ack.Tie as tie

@@ -1,4 +1,4 @@
--- `deliver_parts::on_sack` meets its contract: every block of a SACK, and without one nothing changes.
+-- `deliver_parts::on_sack` meets its contract: SACK acks every block, and without it nothing changes.
 use Rattle.deliver_parts.proofs.Parts.{sacked, unsacked}
 use mathlib.Core.Path.{sym, _∙_}
 use borrow.Author.Needs.{needs}

@@ -1,4 +1,4 @@
--- `drill_lines::put_numbers` meets its contract: a number takes 21 bytes at most.
+-- `drill_lines::put_numbers` meets its contract: a number takes at most 21 bytes.
 use Prim.Native.Nat.{_+_, _*_, _-_, _≤_}
 use mathlib.Core.Path.{_≡_}
 use native.Mathlib.Omega.{arith}

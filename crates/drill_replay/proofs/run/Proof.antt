@@ -1,4 +1,4 @@
--- `drill_replay::run` is safe and ends: it counts the scripts that it may still run.
+-- `drill_replay::run` is safe and terminates: it counts down the scripts that it may still run.
 use Prim.Native.Nat.{_-_, _≤_}
 use native.Mathlib.Omega.{arith}
 use borrow.Author.Needs.{needs}

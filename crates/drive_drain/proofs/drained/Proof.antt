@@ -1,4 +1,4 @@
--- `drive_drain::drained` meets its contract: each way out is one of the three tests.
+-- `drive_drain::drained` meets its contract: each exit is one of the three tests.
 use mathlib.Core.Path.{sym, _∙_}
 use borrow.Author.Needs.{needs}
 use Rattle.drive_drain.proofs.Drain.{runs, queued, stored-or-not}

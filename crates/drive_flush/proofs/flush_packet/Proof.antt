@@ -1,4 +1,4 @@
--- `drive_flush::flush_packet` meets its contract: the words are what the two callees say, with packet and entry put in.
+-- `drive_flush::flush_packet` meets its contract: the two callees write the packet's words and the entry's word.
 use borrow.Author.Needs.{needs}
 use Rattle.drive_flush.proofs.flush_packet.Statement.{statement}
 use Rattle.drive_flush.proofs.flush_packet.Tie as tie

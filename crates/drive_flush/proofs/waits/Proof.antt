@@ -1,4 +1,4 @@
--- `drive_flush::waits` meets its contract: each branch has decided whether it is packet n.
+-- `drive_flush::waits` meets its contract: each branch knows whether p is packet n.
 use mathlib.Core.Path.{sym, _∙_, refl}
 use borrow.Author.Needs.{needs}
 use Rattle.drive_flush.proofs.waits.Statement.{statement}

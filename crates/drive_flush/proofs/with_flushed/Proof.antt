@@ -1,4 +1,4 @@
--- `drive_flush::with_flushed` meets its contract: each group is what one callee says of it.
+-- `drive_flush::with_flushed` meets its contract: sender and queue come from one callee each.
 use mathlib.Core.Path.{ap₂}
 use borrow.Author.Needs.{needs}
 use Rattle.records.specs.declared.Sender.{Sender}

@@ -1,4 +1,4 @@
--- `drive_settle::settle_numbers` meets its contract. The loop's invariant is `Going`; the numbers that are left fall.
+-- `drive_settle::settle_numbers` meets its contract. The loop's invariant is `Going`; the count of numbers left falls.
 use Prim.Native.Nat.{_-_}
 use native.Mathlib.Omega.{arith}
 use Rattle.drive_settle.proofs.SettleAll.{Going, starts, next-window, settles-next, all-settled, falls}

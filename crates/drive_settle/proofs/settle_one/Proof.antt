@@ -1,4 +1,4 @@
--- `drive_settle::settle_one` meets its contract: the number leaves as acking has it, and remote acked moves past it.
+-- `drive_settle::settle_one` meets its contract: the number is acked, and remote acked moves past it.
 use borrow.Author.Needs.{needs}
 use Rattle.drive_settle.proofs.SettleOne.{settles-one, lowest-below}
 use Rattle.drive_settle.proofs.settle_one.Statement.{statement}

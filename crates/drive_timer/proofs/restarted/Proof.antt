@@ -1,4 +1,4 @@
--- `drive_timer::restarted` meets its contract: the deadline that is picked is the model's.
+-- `drive_timer::restarted` meets its contract: the picked deadline is the model's.
 use mathlib.Core.Path.{_∙_}
 use borrow.Author.Needs.{needs}
 use Rattle.drive_timer.proofs.TimerLaws.{restarted-is}

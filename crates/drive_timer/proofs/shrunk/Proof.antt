@@ -1,4 +1,4 @@
--- `drive_timer::shrunk` meets its contract: the window is the callee's, all else the sender's own.
+-- `drive_timer::shrunk` meets its contract: the window is the callee's result, the rest is unchanged.
 use borrow.Author.Needs.{needs}
 use Rattle.drive_timer.proofs.TimerLaws.{windowed}
 use Rattle.drive_timer.proofs.shrunk.Statement.{statement}

@@ -1,4 +1,4 @@
--- `error::error_or` meets its contract: an error is answered as its refusal, and without one the call's own answer stands.
+-- `error::error_or` meets its contract: each error gives its refusal; without one the call's own answer is returned.
 use borrow.Author.Needs.{needs}
 use Rattle.error.proofs.error_or.Statement.{statement}
 use Rattle.error.proofs.error_or.Tie as tie

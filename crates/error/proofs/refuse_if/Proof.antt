@@ -1,4 +1,4 @@
--- `error::refuse_if` meets its contract: the refusal where it applies, else the later ones.
+-- `error::refuse_if` meets its contract: the refusal if it applies, else the later verdict.
 use mathlib.Core.Path.{refl}
 use borrow.Author.Needs.{needs}
 use Rattle.error.proofs.refuse_if.Statement.{statement}

@@ -1,5 +1,5 @@
--- `packet_blocks::next_at` meets its contract: what `packet::block_at` answers says what is read. A block stands inside the payload, so the
--- place after it is a number that fits.
+-- `packet_blocks::next_at` meets its contract: the result of `packet::block_at` decides what is read. A block is inside the payload, so the
+-- place after it fits a usize.
 use native.Mathlib.Omega.{arith}
 use mathlib.Core.Path.{sym, _∙_}
 use borrow.Author.Needs.{needs}

@@ -1,5 +1,7 @@
--- `packet_blocks::read_from` meets its contract: a walk of its MIR, by hand. A `BlockReader` that one call returns is held in a local and passed to the next. All that the proof knows of `new`, `moved` and `next` is that each meets its contract.
--- The machine value that `new` returns is stored and passed on as it is. In a local of a body MIR erases the lifetime of the struct's type, so the value is shown to have the type at `erased`: what the struct owns does not say the lifetime's name.
+-- `packet_blocks::read_from` meets its contract: a walk of its MIR, by hand. The `BlockReader` that one call returns is held in a local and
+-- passed to the next. The proof uses nothing of `new`, `moved` and `next` but their contracts.
+-- The machine value that `new` returns is stored and passed on as it is. MIR erases the lifetime in the type of a body's local, so the
+-- value is shown to have the type at `erased`: what the struct owns does not mention the lifetime's name.
 use mathlib.Core.Path.{_≡_, refl, ap, _∙_}
 use Prim.Native.Nat.{ℕ, _<_, _^_}
 use mathlib.Core.List.{List, [], _∷_}
@@ -79,14 +81,14 @@ module _ {M : Type 1} (𝓤 : URA M) (H : Heap 𝓤) (A : Atoms 𝓤) (mem : Mem
   CNext = tripleOf 𝓤 H A next.signature (next.spec 𝓤 H A mem run)
 
 module _ {M : Type 1} (𝓤 : URA M) (H : Heap 𝓤) (A : Atoms 𝓤) (W : Given 𝓤 H A) (mem : Memory → SProp 𝓤) (run : Routine → Fun 𝓤) (κ : Lft) (q : Share) (s : RefT (List ℕ)) (n : ℕ) (fits : n < 2 ^ 64) where
-  -- the machine value that s has
+  -- the machine value of s
   abbrev v : Val
   v = sliceVal (s .ptr) (length (s .now))
 
   abbrev found : Next
   found = readAt (now s) n
 
-  -- the struct's type as a local of a body has it
+  -- the struct's type, as a local of a body has it
   abbrev αᵉ : NamedLft
   αᵉ = record { mir = erased; lft = κ }
 
@@ -96,7 +98,7 @@ module _ {M : Type 1} (𝓤 : URA M) (H : Heap 𝓤) (A : Atoms 𝓤) (W : Given
   abbrev Own : Fml
   Own = ShrSlice (named 0) κ u8 .own s (v ∷ [])
 
-  -- the call of `new`: what it is passed, what it asks, and what is known of its result
+  -- the call of `new`: what it is passed, what it requires, and what is known of its result
   abbrev to-new : New 𝓤 H A mem run .Ghost
   to-new = (((κ, tt), (q, tt), tt, (s, tt), (v ∷ [], tt)), tt)
 

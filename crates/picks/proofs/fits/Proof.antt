@@ -1,4 +1,4 @@
--- `picks::fits` meets its contract: where the first number is at most the third, the second fits what is left just where the sum does.
+-- `picks::fits` meets its contract: if the first number is at most the third, the second fits in the difference exactly when the sum fits.
 use Prim.Native.Nat.{ℕ, _+_, _-_, _<_, _≤_}
 use native.Mathlib.Omega.{arith}
 use mathlib.Core.Path.{_≡_, refl, sym}

@@ -1,5 +1,4 @@
--- `deliver_data::put_next` meets its contract: the bytes that lie in the store from the packet's read offset on are those that are left of
--- it, as many as are asked for.
+-- `read_bytes::put_next` meets its contract: the store's bytes from the packet's read offset on are those left to read.
 use borrow.Author.Needs.{needs}
 use Rattle.read_bytes.proofs.ReadLaws.{next-room, next-put}
 use Rattle.read_bytes.proofs.put_next.Statement.{statement}

@@ -1,5 +1,5 @@
--- `deliver_data::read_next` meets its contract. The loop's invariant is `Going`, with the buffer's length; what is left to top falls. Each
--- way out and the turn are one law each, of what the turn's calls and tests say.
+-- `read_bytes::read_next` meets its contract. The loop's invariant is `Going`, with the buffer's length; the distance to top falls. The
+-- turn and each exit have one law, which combines what the calls and tests say.
 use borrow.Author.Needs.{needs}
 use Prim.Native.Nat.{_-_}
 use native.Mathlib.Omega.{arith}
@@ -20,9 +20,9 @@ abbrev μ-loop : tie.MeasureT-loop
 loop-holds : tie.Need-loop-holds Inv-loop μ-loop
 loop-holds c = (read-starts _ _ _ _ (c .before .before .pre), refl)
 
--- in the places below `h` is where the packet at the read cursor was found held, and `b` where the turn began
+-- below, `h` is the point where the packet at the read cursor was found held, and `b` the start of the turn
 
--- that packet keeps its rule
+-- that packet obeys its rule
 fits : (h : tie.Then2 Inv-loop μ-loop) → Fit (h .before .before .get-held .result)
 fits h =
     let b = h .before .before .before .before in

@@ -1,4 +1,4 @@
--- `records_stores::payload_bytes` meets its contract: the bytes of a held payload are those of its number's slot, from one place to another.
+-- `records_stores::payload_bytes` meets its contract: the bytes of a held payload are a range of its number's slot.
 use Rattle.records_stores.proofs.PutLaws.{part-between}
 use Prim.Native.Nat.{_*_, _%_}
 use borrow.Author.Needs.{needs}

@@ -1,4 +1,4 @@
--- `records_stores::put_at` meets its contract: the bytes stand at the place, and the others stay.
+-- `records_stores::put_at` meets its contract: the bytes are at their place, and the others are unchanged.
 use Rattle.records_stores.proofs.PutLaws.{of-copy}
 use borrow.Author.Needs.{needs}
 use Rattle.records_stores.proofs.put_at.Statement.{statement}

@@ -1,4 +1,4 @@
--- `records_stores::put_both` meets its contract: the payload stands behind the header, and the other bytes stay.
+-- `records_stores::put_both` meets its contract: the payload follows the header, and the other bytes are unchanged.
 use Rattle.records_stores.proofs.PutLaws.{both}
 use borrow.Author.Needs.{needs}
 use Rattle.records_stores.proofs.put_both.Statement.{statement}

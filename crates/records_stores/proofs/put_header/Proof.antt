@@ -1,4 +1,4 @@
--- `records_stores::put_header` meets its contract: the header stands at its place, and the other bytes stay.
+-- `records_stores::put_header` meets its contract: the header is at its place, and the other bytes are unchanged.
 use Prim.Native.Nat.{_*_}
 use mathlib.Core.Path.{ap, _∙_}
 use Rattle.records.specs.Put.{put}

@@ -1,4 +1,4 @@
--- `records_words::held_word` meets its contract: the word is that of the definition, part by part.
+-- `records_words::held_word` meets its contract: the word is the definition's, term by term.
 use Rattle.records_words.specs.Words.{heldWord}
 use borrow.Author.Needs.{needs}
 use Rattle.records_words.proofs.held_word.Statement.{statement}

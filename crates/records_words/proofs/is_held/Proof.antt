@@ -1,4 +1,4 @@
--- `records_words::is_held` meets its contract: a word with 0 where the length stands is no packet, any other is the packet of its number.
+-- `records_words::is_held` meets its contract: a word with 0 in the length field is no packet, any other is the packet of its number.
 use borrow.Author.Tests.{eq-eqb, ne-eqb}
 use Rattle.records_words.proofs.is_held.Statement.{statement}
 use Rattle.records_words.proofs.is_held.Tie as tie

@@ -1,4 +1,4 @@
--- `records_words::is_short` meets its contract: how far the word's number and length, as one number, are past those of an empty packet.
+-- `records_words::is_short` meets its contract: number and length, as one integer, are at most `most` above those of an empty packet n.
 use Prim.Native.Nat.{ℕ, _<_, _^_}
 use native.Mathlib.Omega.{arith}
 use mathlib.Core.Path.{ap, _∙_}

@@ -1,4 +1,4 @@
--- `records_words::is_sized` meets its contract: how far the word's number and length, as one number, are past the least ones.
+-- `records_words::is_sized` meets its contract: number and length, as one integer, are at most `most - least` above n and `least`.
 use Prim.Native.Nat.{ℕ, _+_, _<_, _^_}
 use native.Mathlib.Omega.{arith}
 use mathlib.Core.Path.{ap, _∙_}

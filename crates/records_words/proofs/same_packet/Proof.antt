@@ -1,4 +1,4 @@
--- `records_words::same_packet` meets its contract: words that are the same but for their lowest six bits have one number and one length.
+-- `records_words::same_packet` meets its contract: words that agree above their lowest six bits have the same number and length.
 use Rattle.records_words.specs.Words.{entryOf}
 use Rattle.records_words.proofs.WordLaws.{same-word}
 use borrow.Author.Needs.{needs}

@@ -1,4 +1,4 @@
--- `records_words::sent_time` meets its contract: with a time sent it is that time and 1, else 0.
+-- `records_words::sent_time` meets its contract: the time sent + 1 if there is one, else 0.
 use mathlib.Core.Path.{refl}
 use Rattle.records_words.specs.Words.{sentTime}
 use borrow.Author.Needs.{needs}

@@ -1,4 +1,4 @@
--- `records_words::sent_word` meets its contract: the word is that of the definition, part by part.
+-- `records_words::sent_word` meets its contract: the word is the definition's, term by term.
 use Rattle.records_words.specs.Words.{sentWord}
 use borrow.Author.Needs.{needs}
 use Rattle.records_words.proofs.sent_word.Statement.{statement}

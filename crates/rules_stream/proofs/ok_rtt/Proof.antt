@@ -1,4 +1,4 @@
--- `rules_stream::ok_rtt` meets its contract: the tests one after the other.
+-- `rules_stream::ok_rtt` meets its contract: the tests in order.
 use borrow.Author.Needs.{needs}
 use Rattle.rules_stream.proofs.ok_rtt.Statement.{statement}
 use Rattle.rules_stream.proofs.ok_rtt.Tie as tie

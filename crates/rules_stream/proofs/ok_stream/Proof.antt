@@ -1,4 +1,4 @@
--- `rules_stream::ok_stream` meets its contract: the rules of each group one after the other; the queue's pass has its 32 numbers from the sender's.
+-- `rules_stream::ok_stream` meets its contract: the rules of each group in order; the sender's rules give the queue's pass its 32 numbers.
 use mathlib.Core.Path.{sym, _∙_}
 use mathlib.Core.Bool.{and-false}
 use Rattle.rules_stream.specs.Ok.{okStream}

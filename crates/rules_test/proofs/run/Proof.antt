@@ -1,4 +1,4 @@
--- `rules_test::run` is safe and ends: each turn takes ten bytes of the input.
+-- `rules_test::run` is safe and terminates: each turn consumes ten bytes of the input.
 use Prim.Native.Nat.{_-_, _≤_}
 use lib.ListN.{length}
 use borrow.Author.Needs.{needs}

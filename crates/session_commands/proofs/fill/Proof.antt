@@ -1,4 +1,4 @@
--- `session_commands::fill` meets its contract: what lies before the place is filled.
+-- `session_commands::fill` meets its contract: everything before the place is filled.
 use Prim.Native.Nat.{ℕ, zero, suc, _+_, _-_, _≤_, _<_}
 use native.Mathlib.Omega.{arith}
 use native.Mathlib.Numerals.{add-one}

@@ -1,4 +1,4 @@
--- `session_commands::hand` meets its contract: what is delivered is the kept datagram of that number.
+-- `session_commands::hand` meets its contract: what is delivered is the kept datagram with that number.
 use mathlib.Core.Path.{sym}
 use borrow.Author.Needs.{needs}
 use Rattle.session_commands.proofs.hand.Statement.{statement}

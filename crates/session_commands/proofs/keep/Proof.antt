@@ -1,4 +1,4 @@
--- `session_commands::keep` meets its contract: the batch is as much of the buffer as was put, or all of it.
+-- `session_commands::keep` meets its contract: the batch is the first `count` bytes of the buffer, or all of it.
 use Prim.Native.Nat.{_-_}
 use mathlib.Core.Path.{refl, ap, _∙_}
 use mathlib.Core.List.{_++_, map}

@@ -1,4 +1,4 @@
--- `session_commands::read` meets its contract: the part that is lent has the length that the command names.
+-- `session_commands::read` meets its contract: the part lent has the length that the command gives.
 use native.Mathlib.Omega.{arith}
 use borrow.Author.Needs.{needs}
 use Rattle.session_commands.proofs.ActLaws.{of-part}

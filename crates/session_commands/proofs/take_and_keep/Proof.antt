@@ -1,4 +1,4 @@
--- `session_commands::take_and_keep` meets its contract: the part that is lent has the room that was asked for, or all there is.
+-- `session_commands::take_and_keep` meets its contract: the part lent has the requested room, or all there is.
 use Prim.Native.Nat.{min}
 use native.Mathlib.Omega.{arith}
 use lib.ListN.{length}

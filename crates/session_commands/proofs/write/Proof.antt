@@ -1,4 +1,4 @@
--- `session_commands::write` meets its contract: the part that is filled has the length that the command names.
+-- `session_commands::write` meets its contract: the part filled has the length that the command gives.
 use native.Mathlib.Omega.{arith}
 use mathlib.Core.Path.{refl}
 use borrow.Author.Needs.{needs}

@@ -1,4 +1,4 @@
--- `session_commands::write_filled` meets its contract: what is written is the buffer that was filled.
+-- `session_commands::write_filled` meets its contract: what is written is the filled buffer.
 use mathlib.Core.Path.{sym}
 use borrow.Author.Needs.{needs}
 use Rattle.session_commands.proofs.write_filled.Statement.{statement}

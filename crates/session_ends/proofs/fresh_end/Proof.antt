@@ -1,4 +1,4 @@
--- `session_ends::fresh_end` meets its contract: stream and totals are copied out of what the open answered.
+-- `session_ends::fresh_end` meets its contract: stream and totals are copied from what open returned.
 use mathlib.Core.Path.{refl}
 use borrow.Author.Needs.{needs}
 use Rattle.session_ends.proofs.fresh_end.Statement.{statement}

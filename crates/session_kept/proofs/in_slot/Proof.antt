@@ -1,4 +1,4 @@
--- `session_kept::in_slot` meets its contract: the part of the store is a slot's, as long as its datagram.
+-- `session_kept::in_slot` meets its contract: the part of the store starts at the slot and is as long as its datagram.
 use borrow.Author.Needs.{needs}
 use Rattle.session_kept.specs.Kept.{slotSize}
 use Rattle.session_kept.proofs.KeptLaws.{slot-part}

@@ -1,4 +1,4 @@
--- `session_kept::is_kept` meets its contract: the numbers of what is kept are those below how many there are.
+-- `session_kept::is_kept` meets its contract: the numbers kept are those below the count.
 use mathlib.Core.Path.{sym, ap, _∙_}
 use borrow.Author.Needs.{needs}
 use lib.Dec.{ltb}

@@ -1,5 +1,5 @@
--- `session_kept::keep_all` meets its contract: what is kept so far and the datagrams of what is left of the batch have the same last 32 as what
--- was kept before and all of its datagrams. It ends, since a piece has a byte at least.
+-- `session_kept::keep_all` meets its contract: what is kept so far plus the datagrams left in the batch has the same last 32 as what was
+-- kept before plus all its datagrams. It terminates, since a piece has at least one byte.
 use Prim.Native.Nat.{ℕ, _+_, _-_, _≤_}
 use native.Mathlib.Omega.{arith}
 use mathlib.Core.Path.{_≡_, refl, sym, ap, _∙_}
@@ -15,7 +15,7 @@ use Rattle.session_kept.proofs.KeptLaws.{kept-few, last-all, last-last}
 use Rattle.session_kept.proofs.keep_all.Statement.{statement}
 use Rattle.session_kept.proofs.keep_all.Tie as tie
 
--- the last 32 of some datagrams and those of the bytes
+-- the last 32 of some datagrams followed by those of the bytes
 abbrev lastWith : List Bytes → ℕ → Bytes → List Bytes
 lastWith ds segment bytes = lastKept (ds ++ map fitted (datagramsOf (segmentOf segment) bytes))
 

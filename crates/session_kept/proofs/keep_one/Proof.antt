@@ -1,4 +1,4 @@
--- `session_kept::keep_one` meets its contract: the datagram is in the slot behind the newest, and that slot counts.
+-- `session_kept::keep_one` meets its contract: the datagram is in the slot after the newest, and that slot counts.
 use native.Mathlib.Omega.{arith}
 use mathlib.Core.Path.{_≡_}
 use borrow.Author.Needs.{needs}

@@ -1,4 +1,4 @@
--- `session_kept::no_datagrams` meets its contract: of a count of 0 nothing is kept.
+-- `session_kept::no_datagrams` meets its contract: with a count of 0 nothing is kept.
 use mathlib.Core.Path.{refl}
 use Rattle.session_kept.specs.Kept.{keptOf}
 use Rattle.session_kept.proofs.no_datagrams.Statement.{statement}

@@ -1,4 +1,4 @@
--- `session_kept::piece` meets its contract: all that is left without a segment size or within it, else the segment size.
+-- `session_kept::piece` meets its contract: the segment size if there is one and it is smaller than what is left, otherwise all of it.
 use native.Mathlib.Omega.{arith}
 use Rattle.session_kept.proofs.Pieces.{next-whole, next-cut, next-last}
 use Rattle.session_kept.proofs.piece.Statement.{statement}

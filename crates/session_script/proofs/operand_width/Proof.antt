@@ -1,4 +1,5 @@
--- `session_script::operand_width` meets its contract: each arm of single numbers rewrites with its number, and the arm of ranges with that the number is none of them.
+-- `session_script::operand_width` meets its contract: an arm for one number rewrites with it, the range arm with the byte being none of
+-- them.
 use mathlib.Core.Path.{_≡_}
 use borrow.Author.Tests.{ne-eqb}
 use Rattle.session_script.specs.Script.{widthOf}

@@ -1,4 +1,4 @@
--- `session_script::operands` meets its contract: an arm of one number rewrites with it, the arm of ranges with that the byte is none of them.
+-- `session_script::operands` meets its contract: an arm for one number rewrites with it, the range arm with the byte being none of them.
 use mathlib.Core.Path.{_≡_}
 use borrow.Author.Needs.{needs}
 use borrow.Author.Tests.{ne-eqb}

@@ -1,4 +1,4 @@
--- `session_script::parse` meets its contract: one law for each way in which it ends.
+-- `session_script::parse` meets its contract: one law for each way it returns.
 use native.Mathlib.Omega.{arith}
 use borrow.Author.Needs.{needs}
 use Rattle.session_script.proofs.Laws.{unknown, short, no-end, whole}

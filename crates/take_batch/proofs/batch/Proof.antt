@@ -1,5 +1,4 @@
--- `take_batch::batch` meets its contract. The loop's invariant: of the entries of one size in a row, k are counted, and the count of all is
--- k and what is still to count.
+-- `take_batch::batch` meets its contract. The loop's invariant: k entries of one size are counted, and the total is k plus what is to come.
 use Prim.Native.Nat.{ℕ, _+_, _-_, _≤_}
 use native.Mathlib.Omega.{arith}
 use mathlib.Core.Path.{_≡_, ap, sym, _∙_}
@@ -18,7 +17,7 @@ Inv-loop q segments queue most size k₀ k =
 abbrev μ-loop : tie.MeasureT-loop
 μ-loop q segments queue most size k₀ k = most - k
 
--- the count k of all that are of one size is the batch
+-- the count k of all entries of one size in a row is the batch
 ends : (c : tie.After-entry-size Inv-loop μ-loop) (k : ℕ)
     → let a = c .before .before .before .before .before .before .args in
     k ≤ c .before .before .least .result

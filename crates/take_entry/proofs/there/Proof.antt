@@ -1,4 +1,4 @@
--- `take_entry::there` meets its contract: each way out is one of the three tests.
+-- `take_entry::there` meets its contract: each return is decided by one of the three tests.
 use borrow.Author.Needs.{needs}
 use borrow.Author.Tests.{le-leb, lt-leb, lt-ltb, le-ltb}
 use Rattle.take_entry.proofs.there.Statement.{statement}

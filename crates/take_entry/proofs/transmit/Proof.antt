@@ -1,4 +1,4 @@
--- `take_entry::transmit` meets its contract: one law of TakeOne for each way out.
+-- `take_entry::transmit` meets its contract: one law of TakeOne for each return.
 use native.Mathlib.Omega.{arith}
 use mathlib.Core.Path.{_≡_, _∙_}
 use mathlib.Core.List.{[]}
@@ -8,7 +8,7 @@ use Rattle.take_entry.proofs.TakeOne.{test-there, takes-state, takes-pa
 use Rattle.take_entry.proofs.transmit.Statement.{statement}
 use Rattle.take_entry.proofs.transmit.Tie as tie
 
--- the test is the one that the store is seen by
+-- the code's test is `isThere`
 found : (c : tie.After-there) → let a = c .before .before .before .before .before .before .before .args in isThere (a .s) (a .sent .now) (a .x .number) ≡ c .there .result
 found c =
     let a = c .before .before .before .before .before .before .before .args in

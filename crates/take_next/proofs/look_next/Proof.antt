@@ -1,4 +1,4 @@
--- `take_next::look_next` meets its contract: the part that is handed out has the bytes of what the search found.
+-- `take_next::look_next` meets its contract: the part returned has the bytes of what the search found.
 use Rattle.take_next.proofs.LookNext.{shows-state, shows-packet}
 use borrow.Author.Needs.{needs}
 use Rattle.take_next.proofs.look_next.Statement.{statement}

@@ -1,4 +1,4 @@
--- `take_next::next_batch` meets its contract: as many entries as `batch` counts can be taken, and what is handed out is made of the answers.
+-- `take_next::next_batch` meets its contract: as many entries as `batch` counts can be taken, and the result is the callees' answers.
 use mathlib.Core.Path.{refl}
 use borrow.Author.Needs.{needs}
 use Rattle.take_next.proofs.NextBatch.{takeable, hands-out}

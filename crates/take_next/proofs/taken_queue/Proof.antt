@@ -1,4 +1,4 @@
--- `take_next::taken_queue` meets its contract: the last entry is taken, or more are left.
+-- `take_next::taken_queue` meets its contract: either the last entry is taken, or more are left.
 use borrow.Author.Needs.{needs}
 use Rattle.take_next.proofs.TakeModel.{takes-last, takes-more}
 use Rattle.take_next.proofs.taken_queue.Statement.{statement}

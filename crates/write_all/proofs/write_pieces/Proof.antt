@@ -1,5 +1,5 @@
--- `write_all::write_pieces` meets its contract. The loop's invariant is `Going`: what went, joined to what the model still does with the
--- bytes that are left, is what it does with all of them. The measure is the bytes that are left.
+-- `write_all::write_pieces` meets its contract. The loop's invariant is `Going`: what went, joined to what the model does with the bytes
+-- left, is what it does with all of them. The measure is the number of bytes left.
 use Prim.Native.Nat.{_-_}
 use mathlib.Core.Path.{sym, _∙_}
 use lib.ListN.{length}

@@ -1,4 +1,4 @@
--- `write_piece::counted_totals` meets its contract: the two sums that wrap are the callee's, the others the code's own.
+-- `write_piece::counted_totals` meets its contract: the two wrapping sums are the callee's, the other two the code's own.
 use borrow.Author.Needs.{needs}
 use Rattle.write_piece.proofs.counted_totals.Statement.{statement}
 use Rattle.write_piece.proofs.counted_totals.Tie as tie

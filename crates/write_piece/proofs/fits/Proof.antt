@@ -1,4 +1,4 @@
--- `write_piece::fits` meets its contract: where inflight is within the window, the payload fits what is left of it just where the sum is at
+-- `write_piece::fits` meets its contract: with inflight within the window, the payload fits what is left of it exactly if the sum is at
 -- most the window.
 use Prim.Native.Nat.{ℕ, _+_, _-_, _<_, _≤_}
 use native.Mathlib.Omega.{arith}

@@ -1,4 +1,4 @@
--- `write_piece::goes` meets its contract: each branch has decided the tests before its own.
+-- `write_piece::goes` meets its contract: in each branch, the tests before it are decided.
 use native.Mathlib.Omega.{arith}
 use Prim.Native.Nat.{_-_}
 use mathlib.Core.Path.{_∙_, sym}

@@ -1,4 +1,4 @@
--- `write_piece::send_data_packet` meets its contract: each part is what one callee says of it, with the header that was made put in.
+-- `write_piece::send_data_packet` meets its contract: each part is what one callee ensures, for the header just made.
 use borrow.Author.Needs.{needs}
 use Rattle.write_piece.proofs.send_data_packet.Statement.{statement}
 use Rattle.write_piece.proofs.send_data_packet.Tie as tie

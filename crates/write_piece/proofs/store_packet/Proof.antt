@@ -1,4 +1,4 @@
--- `write_piece::store_packet` meets its contract: the bytes and the words are what the two callees say, with the new packet put in.
+-- `write_piece::store_packet` meets its contract: the bytes and the words are what the two callees ensure, for the new packet.
 use borrow.Author.Needs.{needs}
 use Rattle.write_piece.proofs.store_packet.Statement.{statement}
 use Rattle.write_piece.proofs.store_packet.Tie as tie

@@ -3,7 +3,7 @@
 use super::*;
 
 impl Writer {
-    /// A step forward of the script's pace.
+    /// A step forward at the script's pace.
     pub(super) fn step(&mut self) -> u64 {
         let bits = self.pace;
         match self.random.below(6) {
@@ -21,7 +21,7 @@ impl Writer {
         (last + self.step()).min(CLOCK_END - 1)
     }
 
-    /// At the deadline, beside it, or wherever.
+    /// At the deadline, next to it, or anywhere.
     pub(super) fn due_clock(&mut self, end: usize) -> u64 {
         let view = self.view(end);
         let deadline = view.numbers.deadline;

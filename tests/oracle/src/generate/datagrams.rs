@@ -1,9 +1,9 @@
-//! Datagrams for raw deliveries: right, wrong and broken ones.
+//! Datagrams for raw deliveries: valid, wrong and broken ones.
 
 use super::*;
 
 impl Writer {
-    /// One that most likely passes all refusals.
+    /// One that most likely is not refused.
     pub(super) fn likely_datagram(&mut self, end: usize, typ: u8) -> Vec<u8> {
         let view = self.view(end);
         let n = &view.numbers;

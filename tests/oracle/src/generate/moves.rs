@@ -47,7 +47,7 @@ impl Writer {
         }
     }
 
-    /// One end says what it has, the other one hears it.
+    /// One end sends what it has, the other one receives it.
     pub(super) fn exchange(&mut self, from: usize) {
         let before = self.run.kept[from].len();
         let clock = if self.random.one_in(5) { self.due_clock(from) } else { self.clock(from) };

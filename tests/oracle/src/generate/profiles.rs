@@ -3,7 +3,7 @@
 use super::*;
 
 impl Writer {
-    /// What has to be there before the first move.
+    /// What must be there before the first move.
     pub(super) fn start(&mut self) {
         if self.kind == Kind::Session {
             return;
@@ -33,7 +33,7 @@ impl Writer {
 
     pub(super) fn next(&mut self) {
         let end = self.end();
-        // Little is left to see once an end has answered done.
+        // Little is left to test once an end has answered done.
         let ended = self.view(end).numbers.ended == 1;
         if ended && self.random.one_in(5) {
             self.most = self.commands;

@@ -1,4 +1,4 @@
-//! The states that a script comes through.
+//! The states that a script reaches.
 
 use super::CLOCK_END;
 use crate::engine::View;
@@ -29,7 +29,7 @@ pub(super) fn coarse(view: &View) -> u64 {
     parts.iter().fold(0, |all, (part, size)| all * size + part)
 }
 
-/// States that scripts come through seldom: the table counts them.
+/// States that scripts seldom reach: the table counts them.
 pub(super) fn reached(view: &View) -> Vec<&'static str> {
     let n = &view.numbers;
     let waiting = view.stored.iter().filter(|packet| packet.waiting).count();

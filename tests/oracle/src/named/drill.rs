@@ -1,4 +1,4 @@
-//! Drill scripts: each but those that stop early ends with the numbers of both ends.
+//! Drill scripts: each, except those that stop early, ends with the numbers of both ends.
 
 use super::*;
 
@@ -393,7 +393,7 @@ pub(super) fn drills(list: &mut List) {
             decode(&[1; 20]),
         ]
     });
-    // Each thing broken, with each call; then nothing broken in states where each call answers otherwise.
+    // Each thing broken, with each call; then nothing broken, in states where each call answers differently.
     for which in 0..=24 {
         let calls = (0..=7).map(|call| spoil(0, which, call, 5));
         let mut parts = vec![write(0, 5, 1), driven(0, 5, 1), write(0, 7, 1)];

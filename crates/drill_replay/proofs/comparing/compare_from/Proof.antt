@@ -1,4 +1,4 @@
--- `drill_replay::comparing::compare_from` is safe and ends: each command ends past its place.
+-- `drill_replay::comparing::compare_from` is safe and terminates: each command ends past where it starts.
 use Prim.Native.Nat.{_-_, _≤_}
 use native.Mathlib.Omega.{arith}
 use borrow.Author.Needs.{needs}

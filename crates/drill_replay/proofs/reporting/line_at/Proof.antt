@@ -1,4 +1,4 @@
--- `drill_replay::reporting::line_at` is safe and ends.
+-- `drill_replay::reporting::line_at` is safe and terminates.
 use Prim.Native.Nat.{_-_, _≤_}
 use native.Mathlib.Omega.{arith}
 use borrow.Author.Needs.{needs}

@@ -1,4 +1,4 @@
--- `drill_turn::acts::any_held` is safe and ends: it looks at 32 numbers at most.
+-- `drill_turn::acts::any_held` is safe and terminates: it looks at 32 numbers at most.
 use Prim.Native.Nat.{_+_, _*_, _-_, _≤_}
 use mathlib.Core.Path.{_≡_}
 use native.Mathlib.Omega.{arith}

@@ -1,4 +1,4 @@
--- `drill_turn::acts::sum` is safe and ends.
+-- `drill_turn::acts::sum` is safe and terminates.
 use Prim.Native.Nat.{_+_, _*_, _-_, _≤_}
 use mathlib.Core.Path.{_≡_}
 use native.Mathlib.Omega.{arith}

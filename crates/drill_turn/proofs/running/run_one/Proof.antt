@@ -1,4 +1,4 @@
--- `drill_turn::running::run_one` meets its contract: the next place is that of the command, and the line is that of the end it is for.
+-- `drill_turn::running::run_one` meets its contract: `command_at` bounds the next place, and `act` the line.
 use borrow.Author.Needs.{needs}
 use Rattle.drill_turn.proofs.running.run_one.Statement.{statement}
 use Rattle.drill_turn.proofs.running.run_one.Tie as tie

@@ -1,4 +1,4 @@
--- `drive_all::poll::flush` meets its contract: waiting packets are queued, then all that is queued is left to take.
+-- `drive_all::poll::flush` meets its contract: waiting packets are queued, then everything queued is left to take.
 use borrow.Author.Needs.{needs}
 use Rattle.drive_all.proofs.Whole.{flushes}
 use Rattle.drive_all.proofs.poll.flush.Statement.{statement}

@@ -1,4 +1,4 @@
--- `drive_lost::timeouts::in_flight` meets its contract: each branch has decided whether it is packet n.
+-- `drive_lost::timeouts::in_flight` meets its contract: each branch knows whether p is packet n.
 use mathlib.Core.Path.{sym, _∙_, refl}
 use borrow.Author.Needs.{needs}
 use Rattle.drive_lost.proofs.timeouts.in_flight.Statement.{statement}

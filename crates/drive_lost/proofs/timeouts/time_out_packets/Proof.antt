@@ -1,5 +1,5 @@
--- `drive_lost::timeouts::time_out_packets` meets its contract. The loop's invariant is `Going`: the model's loop does from number n on what it
--- does from the first. The measure is the numbers that are left.
+-- `drive_lost::timeouts::time_out_packets` meets its contract. The loop's invariant is `Going`: the model's loop from number n on gives the
+-- result of the whole loop. The measure is the count of numbers left.
 use Prim.Native.Nat.{_-_}
 use mathlib.Core.Path.{sym, _∙_}
 use native.Mathlib.Omega.{arith}

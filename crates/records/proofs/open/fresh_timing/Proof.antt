@@ -1,4 +1,4 @@
--- `records::open::fresh_timing` meets its contract: an estimate without a sample, and the deadline 1,000 ms on.
+-- `records::open::fresh_timing` meets its contract: an estimate without a sample, and a deadline 1,000 ms from now.
 use borrow.Author.Needs.{needs}
 use Rattle.records.proofs.«open».fresh_timing.Statement.{statement}
 use Rattle.records.proofs.«open».fresh_timing.Tie as tie

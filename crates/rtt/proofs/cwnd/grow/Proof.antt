@@ -1,5 +1,5 @@
--- `rtt::cwnd::grow` meets its contract: the test against SSTHRESH says which growth `grown` takes; the rest is arithmetic, once for
--- each arm by which the step came.
+-- `rtt::cwnd::grow` meets its contract: the test against SSTHRESH selects the growth in `grown`; the rest is arithmetic, once for each arm
+-- that computes the step.
 use mathlib.Core.Logic.{⊎-elim}
 use native.Mathlib.Omega.{arith}
 use borrow.Author.Tests.{lt-ltb, le-ltb}

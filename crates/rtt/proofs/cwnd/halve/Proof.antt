@@ -1,4 +1,4 @@
--- `rtt::cwnd::halve` meets its contract: each branch has the larger of the two numbers.
+-- `rtt::cwnd::halve` meets its contract: each branch returns the larger of the two numbers.
 use native.Mathlib.Omega.{arith}
 use Rattle.rtt.specs.Window.{halved}
 use Rattle.rtt.proofs.cwnd.halve.Statement.{statement}

@@ -1,4 +1,4 @@
--- `rules_packets::sender::in_time` meets its contract: with a time sent it is that test, without one it holds.
+-- `rules_packets::sender::in_time` meets its contract: the comparison if there is a time sent, else true.
 use borrow.Author.Needs.{needs}
 use Rattle.rules_packets.proofs.sender.in_time.Statement.{statement}
 use Rattle.rules_packets.proofs.sender.in_time.Tie as tie

@@ -1,4 +1,4 @@
--- `rules_packets::sender::stored` meets its contract: what was found below n, with what the numbers from n on add to it, is what all of them add up to.
+-- `rules_packets::sender::stored` meets its contract: what was found below n, plus what the numbers from n on add, is the total.
 use Prim.Native.Nat.{_-_}
 use native.Mathlib.Omega.{arith}
 use mathlib.Core.Path.{sym, _∙_}

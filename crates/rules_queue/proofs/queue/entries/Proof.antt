@@ -1,4 +1,4 @@
--- `rules_queue::queue::entries` meets its contract: what was found below i, with what the entries from i on add to it, is what all of them have.
+-- `rules_queue::queue::entries` meets its contract: what was found below i, plus what the entries from i on add, is the total.
 use Prim.Native.Nat.{_-_}
 use mathlib.Core.Path.{sym, _∙_}
 use borrow.Author.Needs.{needs}

@@ -1,4 +1,4 @@
--- `rules_queue::queue::ok_queue` meets its contract: the tests one after the other, with what the pass found.
+-- `rules_queue::queue::ok_queue` meets its contract: the tests in order, with what the pass found.
 use native.Mathlib.Omega.{arith}
 use Rattle.rules_queue.proofs.Queued.{too-many, too-few, passed}
 use borrow.Author.Needs.{needs}

@@ -1,4 +1,4 @@
--- `rules_queue::queue::places_ok` meets its contract: the tests one after the other.
+-- `rules_queue::queue::places_ok` meets its contract: the tests in order.
 use borrow.Author.Needs.{needs}
 use Rattle.rules_queue.proofs.queue.places_ok.Statement.{statement}
 use Rattle.rules_queue.proofs.queue.places_ok.Tie as tie

@@ -1,4 +1,4 @@
--- `rules_queue::queue::plain` meets its contract: the tests one after the other.
+-- `rules_queue::queue::plain` meets its contract: the tests in order.
 use borrow.Author.Needs.{needs}
 use Rattle.rules_queue.proofs.queue.plain.Statement.{statement}
 use Rattle.rules_queue.proofs.queue.plain.Tie as tie

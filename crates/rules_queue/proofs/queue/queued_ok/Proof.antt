@@ -1,4 +1,4 @@
--- `rules_queue::queue::queued_ok` meets its contract: the tests one after the other, on the packet in the slot of the number.
+-- `rules_queue::queue::queued_ok` meets its contract: the tests in order, on the packet in the slot of the number.
 use borrow.Author.Needs.{needs}
 use Rattle.rules_queue.proofs.queue.queued_ok.Statement.{statement}
 use Rattle.rules_queue.proofs.queue.queued_ok.Tie as tie

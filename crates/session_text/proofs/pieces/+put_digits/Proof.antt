@@ -1,4 +1,5 @@
--- `session_text::pieces::put_digits` meets its contract: a write of the digits before the last, and then of the last. The measure is the number of digits left.
+-- `session_text::pieces::put_digits` meets its contract: it writes the digits before the last, then the last. The measure is the number of
+-- digits left.
 use Prim.Native.Nat.{ℕ, _<_, _-_, _/_}
 use mathlib.Core.Path.{_≡_, refl, sym, ap, _∙_}
 use native.Mathlib.Omega.{arith}

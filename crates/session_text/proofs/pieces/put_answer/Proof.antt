@@ -1,4 +1,4 @@
--- `session_text::pieces::put_answer` meets its contract: six pieces, each where the last one ended.
+-- `session_text::pieces::put_answer` meets its contract: six pieces, each put where the last one ended.
 use native.Mathlib.Omega.{arith}
 use Prim.Native.Nat.{_≤_}
 use lib.ListN.{length}

@@ -1,4 +1,4 @@
--- `session_turn::opening::open_ends` meets its contract: both ends are fresh, and the arrays have the lengths that their types say.
+-- `session_turn::opening::open_ends` meets its contract: both ends are fresh, and the arrays have the lengths of their types.
 use Prim.Native.Nat.{ℕ}
 use native.Mathlib.Omega.{arith}
 use mathlib.Core.Path.{_≡_, refl}
@@ -14,7 +14,7 @@ sized : (outgoing incoming headers : Bytes) → length outgoing ≡ 44_800 → l
     → StoreLengths (stores outgoing incoming headers)
 sized outgoing incoming headers o i h = rw (o, i, h) refl
 
--- a call on an array as a slice says its length
+-- passing an array as a slice gives its length
 returns : tie.Need-returns
 returns c =
     let zero = c .before .before .before .before in

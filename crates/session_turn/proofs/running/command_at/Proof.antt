@@ -1,4 +1,4 @@
--- `session_turn::running::command_at` meets its contract: a command of what is left has a byte at least.
+-- `session_turn::running::command_at` meets its contract: a command in what is left has at least one byte.
 use native.Mathlib.Omega.{arith}
 use mathlib.Core.Path.{refl}
 use borrow.Author.Needs.{needs}

@@ -1,4 +1,4 @@
--- `session_turn::running::run_one` meets its contract: the command runs on the end that it is for, or the run ends (TurnLaws.antt).
+-- `session_turn::running::run_one` meets its contract: the command runs on the end it is for, or the run ends (TurnLaws.antt).
 use native.Mathlib.Omega.{arith}
 use mathlib.Core.Path.{sym, _∙_}
 use borrow.Author.Needs.{needs}

@@ -1,4 +1,4 @@
--- `udx::close::close` meets its contract: the verdict is the model's, and what follows it is its answer.
+-- `udx::close::close` meets its contract: the verdict is the model's, and an accepted close gives the model's answer.
 use mathlib.Core.Path.{sym, _∙_}
 use borrow.Author.Needs.{needs}
 use Rattle.records.specs.Seen.{Lent}

@@ -1,4 +1,4 @@
--- `udx::deliver::deliver` meets its contract: the three lists of refusals are the model's, and what follows them is its answer.
+-- `udx::deliver::deliver` meets its contract: the three lists of refusals are the model's, and an accepted delivery gives its answer.
 use native.Mathlib.Omega.{arith}
 use mathlib.Core.Path.{sym, _∙_}
 use borrow.Author.Needs.{needs}

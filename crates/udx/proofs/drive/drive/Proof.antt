@@ -1,4 +1,4 @@
--- `udx::drive::drive` meets its contract: the refusals are the model's list, and what follows them is its answer.
+-- `udx::drive::drive` meets its contract: the refusals are the model's list, and an accepted drive gives the model's answer.
 use borrow.Author.Needs.{needs}
 use Rattle.records.specs.Seen.{Lent}
 use Rattle.rules_lent.specs.Broken.{lent}

@@ -1,4 +1,4 @@
--- `udx::take::take` meets its contract: the verdict is the model's, and what follows it is its answer.
+-- `udx::take::take` meets its contract: the verdict is the model's, and an accepted take gives the model's answer.
 use borrow.Author.Needs.{needs}
 use Rattle.records.specs.Seen.{Lent}
 use Rattle.rules_lent.specs.Broken.{lent}

@@ -1,4 +1,4 @@
--- `udx::write::write` meets its contract: the verdict is the model's, and what follows it is its answer.
+-- `udx::write::write` meets its contract: the verdict is the model's, and an accepted write gives the model's answer.
 use borrow.Author.Needs.{needs}
 use Rattle.records.specs.Seen.{Lent}
 use Rattle.rules_lent.specs.Broken.{lent}

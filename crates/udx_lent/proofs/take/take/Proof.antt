@@ -1,6 +1,6 @@
--- `take` meets its contract: a walk of its MIR. The borrow of the totals is opened, the record is copied out and passed to udx's `take` with
--- the rest; the totals of the step are stored in its place, and the step's other fields are the answer. Of udx's `take` its contract alone
--- is known.
+-- `udx_lent::take::take` meets its contract, by a walk of its MIR: the borrow of the totals is opened, the record is copied out and
+-- passed to udx's `take` with the rest; the step's totals are stored in its place, and the step's other fields are the answer. Only the
+-- contract of udx's `take` is used.
 use mathlib.Core.Path.{_≡_, refl}
 use Prim.Native.Nat.{ℕ}
 use mathlib.Core.List.{[], _∷_, List}
@@ -62,7 +62,7 @@ stayed = (stay-ref (0 ∷ []) tt (plain (λ _. totalsT)), (stay-dropped (plain (
 abbrev Core : {M : Type 1} (𝓤 : URA M) (H : Heap 𝓤) (A : Atoms 𝓤) (mem : Memory → SProp 𝓤) (run : Routine → Fun 𝓤) → Contract 𝓤
 Core 𝓤 H A mem run = tripleOf 𝓤 H A core.signature (core.spec 𝓤 H A mem run)
 
--- what the callee leaves of its parameters
+-- the callee's parameters at its exit
 abbrev Last : Type 0
 Last = Unit {0} × (Unit {0} × (List ℕ × (Unit {0} × (Unit {0} × (Unit {0} × (Unit {0} × (Unit {0} × (List ℕ × Unit {0}))))))))
 
@@ -93,7 +93,7 @@ module _ {M : Type 1} (𝓤 : URA M) (H : Heap 𝓤) (A : Atoms 𝓤) (W : Given
   abbrev Post : Val → SProp 𝓤
   Post = walkOf 𝓤 H A self.ended stayed (self.clauses 𝓤 H A at-mem run) .post ((lfts, shares, tt, x, at), tt)
 
-  -- at entry: the tokens and what is owned. Of it the totals' borrow is for the walk, and the rest is passed on
+  -- at entry: the tokens and what is owned; the walk uses the totals' borrow, the rest is passed on
   abbrev Toks : Item 𝓤
   Toks = ‵ (flft κ₁ q₁) ⊛ ‵ (flft κ₂ q₂) ⊛ ‵ (flft κ₃ q₃) ⊛ ‵ (flft κ₄ q₄) ⊛ ‵ (flft κ₅ q₅) ⊛ ‵ (flft κ₆ q₆) ⊛ ‵ (flft κ₇ q₇) ⊛ ‵ ftrue
 
@@ -119,7 +119,7 @@ module _ {M : Type 1} (𝓤 : URA M) (H : Heap 𝓤) (A : Atoms 𝓤) (W : Given
   enters = qed W (Tokens ∷ Owned ∷ []) ∵
       move ! (1 ∷ []) $ fsplit ! $ move ! (1 ∷ []) $ fsplit ! $ drop ! $ fsplit ! $ move ! (1 ∷ []) $ fsplit ! $ move ! (1 ∷ []) $ fsplit ! $ move ! (1 ∷ []) $ fsplit ! $ move ! (1 ∷ []) $ fsplit ! $ move ! (1 ∷ []) $ fsplit ! $ move ! (1 ∷ []) $ fsplit ! $ move ! (1 ∷ []) $ drop ! $ move ! (7 ∷ []) $ fsplit3 ! $ drop ! $ move ! (9 ∷ []) $ split ! $ move ! (2 ∷ 3 ∷ 0 ∷ 1 ∷ 10 ∷ 9 ∷ 8 ∷ 7 ∷ 6 ∷ 5 ∷ 4 ∷ []) $ frame ! $ frame ! $ frame ! $ done !
 
-  -- the call: what the callee is passed, what it asks, and what is known after it
+  -- the call: its arguments, its precondition, and what is known after it
   abbrev passed : Args core.signature lfts′
   passed = (s, (h, (sent, (held, (queue, (outgoing, (incoming, (headers, (buf, tt)))))))))
 
@@ -176,12 +176,12 @@ module _ {M : Type 1} (𝓤 : URA M) (H : Heap 𝓤) (A : Atoms 𝓤) (W : Given
         use1 W (later (some (Back u))) (id⊢ 𝓤 _) $ await ! tt $ pick ! (λ r. use1 W (some (λ zs. given (Known u r zs) (Left zs))) (told u r) $ pick ! (λ zs. learn ! (λ k. restate ! (_ ∷ _ ∷ _ ∷ _ ∷ _ ∷ _ ∷ _ ∷ _ ∷ _ ∷ _ ∷ _ ∷ _ ∷ _ ∷ _ ∷ _ ∷ _ ∷ _ ∷ _ ∷ _ ∷ _ ∷ _ ∷ _ ∷ _ ∷ _ ∷ _ ∷ _ ∷ _ ∷ _ ∷ _ ∷ _ ∷ _ ∷ _ ∷ _ ∷ _ ∷ _ ∷ []) $
         land ! (from ! (stop !)) (init ! 13 refl (step-ok W r _ (k .0))) $
         rewrite ! 13 (λ (y : Val). ‵ (fat fullShare stepM l₁₀ 0 y)) (apart r u (k .0) .whole) refl $ restate ! (_ ∷ _ ∷ _ ∷ _ ∷ _ ∷ _ ∷ _ ∷ _ ∷ _ ∷ _ ∷ _ ∷ _ ∷ _ ∷ _ ∷ _ ∷ _ ∷ _ ∷ _ ∷ _ ∷ _ ∷ _ ∷ _ ∷ _ ∷ _ ∷ _ ∷ _ ∷ _ ∷ _ ∷ _ ∷ _ ∷ _ ∷ _ ∷ _ ∷ _ ∷ _ ∷ []) $
-        -- the totals are stored, and the answer is made
+        -- the totals are stored, and the answer is built
         assigns ! (of-opd ! (load ! (from ! (fld ! at-totals (stop !))) (look-in ! 13 (sub ! {τs = fields} 1 at-totals (whole !))))) (from ! (hop ! (look ! 31 refl) (stop !))) (store ! 1 refl (totals-ok W (r .totals) _ (apart r u (k .0) .totals-is))) $
         assigns ! (agg ! (and-then ! (load ! (from ! (fld ! at-stream (stop !))) (look-in ! 13 (sub ! {τs = fields} 0 at-stream (whole !)))) (and-then ! (load ! (from ! (fld ! at-outcome (stop !))) (look-in ! 13 (sub ! {τs = fields} 2 at-outcome (whole !)))) (and-then ! (load ! (from ! (fld ! at-count (stop !))) (look-in ! 13 (sub ! {τs = fields} 3 at-count (whole !)))) (and-then ! (load ! (from ! (fld ! at-segment (stop !))) (look-in ! 13 (sub ! {τs = fields} 4 at-segment (whole !)))) (no-more !)))))) (from ! (stop !)) (init ! 33 refl (answer-ok W (answerOf r) _ (apart r u (k .0) .answer-is))) $
         move ! (1 ∷ []) $ use1 W (‵ (cellAt fullShare (totalsT .mir) (apart r u (k .0) .totals ∷ []) b o)) (W .laws .at-raw fullShare totalsM b o (apart r u (k .0) .totals)) $ owned ! totalsT (Is totalsT) (totals-makes 𝓤 H A) (r .totals) _ (apart r u (k .0) .totals-is) $ move ! (1 ∷ 0 ∷ 3 ∷ 4 ∷ 5 ∷ []) $
         closes ! tt totalsT (r .totals) (apart r u (k .0) .totals ∷ []) b o $
-        -- the locals are let go
+        -- the locals are freed
         restate ! (_ ∷ _ ∷ _ ∷ _ ∷ _ ∷ _ ∷ _ ∷ _ ∷ _ ∷ _ ∷ _ ∷ _ ∷ _ ∷ _ ∷ _ ∷ _ ∷ _ ∷ _ ∷ _ ∷ _ ∷ _ ∷ _ ∷ _ ∷ _ ∷ _ ∷ _ ∷ _ ∷ _ ∷ _ ∷ _ ∷ _ ∷ _ ∷ _ ∷ _ ∷ []) $ returns ! (look ! 32 refl) $ move ! (32 ∷ 33 ∷ 30 ∷ 31 ∷ 28 ∷ 29 ∷ 26 ∷ 27 ∷ 24 ∷ 25 ∷ 22 ∷ 23 ∷ 20 ∷ 21 ∷ 18 ∷ 19 ∷ 16 ∷ 17 ∷ 14 ∷ 15 ∷ 12 ∷ 13 ∷ 10 ∷ 11 ∷ 8 ∷ 9 ∷ 6 ∷ 7 ∷ 4 ∷ 5 ∷ []) $
         restate ! (_ ∷ _ ∷ _ ∷ _ ∷ _ ∷ _ ∷ _ ∷ _ ∷ _ ∷ _ ∷ _ ∷ _ ∷ _ ∷ _ ∷ _ ∷ _ ∷ _ ∷ _ ∷ _ ∷ _ ∷ _ ∷ _ ∷ _ ∷ _ ∷ _ ∷ _ ∷ _ ∷ _ ∷ _ ∷ _ ∷ _ ∷ _ ∷ _ ∷ _ ∷ []) $
         forget ! 0 refl $ free1 ! $ forget ! 0 refl $ free1 ! $ forget ! 0 refl $ free1 ! $ forget ! 0 refl $ free1 ! $ forget ! 0 refl $ free1 ! $ restate ! (_ ∷ _ ∷ _ ∷ _ ∷ _ ∷ _ ∷ _ ∷ _ ∷ _ ∷ _ ∷ _ ∷ _ ∷ _ ∷ _ ∷ _ ∷ _ ∷ _ ∷ _ ∷ _ ∷ _ ∷ _ ∷ _ ∷ _ ∷ _ ∷ []) $

@@ -1,4 +1,4 @@
--- `udx_refusals::deliver::header_verdict` meets its contract: the lines of the list, from the last to the first.
+-- `udx_refusals::deliver::header_verdict` meets its contract: the tests of the list, from the last to the first.
 use Rattle.udx_refusals.specs.Verdicts.{headerVerdict}
 use mathlib.Core.Path.{refl}
 use borrow.Author.Needs.{needs}

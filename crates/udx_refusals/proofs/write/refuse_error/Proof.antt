@@ -1,4 +1,4 @@
--- `udx_refusals::write::refuse_error` meets its contract: each error is its refusal, and without one the later ones speak.
+-- `udx_refusals::write::refuse_error` meets its contract: each error gives its refusal, and without an error `later` decides.
 use borrow.Author.Needs.{needs}
 use Rattle.udx_refusals.proofs.write.refuse_error.Statement.{statement}
 use Rattle.udx_refusals.proofs.write.refuse_error.Tie as tie

@@ -1,5 +1,5 @@
--- `packet::header::Header::encode` meets its contract: a short buffer stays; in a long one the copy leaves the header's 20 bytes and
--- what stood after them.
+-- `packet::header::Header::encode` meets its contract: a short buffer is unchanged; in a long one the copy leaves the header's 20 bytes and
+-- what was after them.
 use mathlib.Core.Path.{sym}
 use native.Mathlib.Omega.{arith}
 use borrow.Author.Needs.{needs}

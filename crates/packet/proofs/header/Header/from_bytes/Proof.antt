@@ -1,5 +1,5 @@
--- `packet::header::Header::from_bytes` meets its contract: the tests on the way are those of `hasHeader`, in its order, and the
--- fields are read at their places.
+-- `packet::header::Header::from_bytes` meets its contract: its tests are those of `hasHeader`, in the same order, and each field is read at
+-- its place.
 use native.Mathlib.Omega.{arith}
 use borrow.Author.Needs.{needs}
 use Rattle.packet.proofs.HeaderLaws.{decoded-short, decoded-magic, decoded-version, decoded-packet}

@@ -1,4 +1,4 @@
--- `packet::header::Header::to_bytes` meets its contract: each byte is that of `headerBytes` at its place, four for each number.
+-- `packet::header::Header::to_bytes` meets its contract: each byte is the one that `headerBytes` has at its place, four for each number.
 use borrow.Author.Needs.{needs}
 use Rattle.packet.specs.Header.{headerBytes}
 use Rattle.packet.proofs.HeaderLaws.{bytes-of, laid}

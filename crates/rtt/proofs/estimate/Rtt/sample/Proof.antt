@@ -1,5 +1,5 @@
--- `rtt::estimate::Rtt::sample` meets its contract: the test of srtt says which rule `sampled` takes, and that the range is kept is
--- proofs/Range.antt.
+-- `rtt::estimate::Rtt::sample` meets its contract: the test of srtt selects the rule in `sampled`; proofs/Range.antt proves that the range
+-- is kept.
 use mathlib.Core.Path.{ap₂, _∙_}
 use native.Mathlib.Omega.{arith}
 use borrow.Author.Tests.{eq-eqb, ne-eqb}

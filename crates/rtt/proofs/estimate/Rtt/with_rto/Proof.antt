@@ -1,4 +1,4 @@
--- `rtt::estimate::Rtt::with_rto` meets its contract: the two maxima that it calls for are those of `rtoOf`.
+-- `rtt::estimate::Rtt::with_rto` meets its contract: its two calls of `max_of` are the two maxima in `rtoOf`.
 use Prim.Native.Nat.{ℕ}
 use mathlib.Core.Path.{ap}
 use native.Mathlib.Omega.{arith}

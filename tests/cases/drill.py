@@ -1,12 +1,12 @@
 #!/usr/bin/env python3
 """Writes crates/drill/stdin and stdout: a script with each command of docs/DRILL.md at least once, and a refusal where it has one of its
-own. The lines are derived by hand from 01 and docs/DRILL.md, not from the program. Run it from anywhere: python3 tests/drill_case.py; with
+own. The lines are derived by hand from 01 and docs/DRILL.md, not from the program. Run it from anywhere: python3 tests/cases/drill.py; with
 --check it writes nothing and fails where the files are others.
 """
 import pathlib
 import sys
 
-HERE = pathlib.Path(__file__).resolve().parent.parent / "crates" / "drill"
+HERE = pathlib.Path(__file__).resolve().parent.parent.parent / "crates" / "drill"
 
 script = bytearray()
 lines = []
@@ -80,7 +80,7 @@ step(0x19, line=f"script {len(script)}")
 text = "".join(line + "\n" for line in lines)
 if sys.argv[1:] == ["--check"]:
     if ((HERE / "stdin").read_bytes(), (HERE / "stdout").read_text()) != (bytes(script), text):
-        sys.exit("crates/drill: stdin or stdout is not what tests/drill_case.py writes")
+        sys.exit("crates/drill: stdin or stdout is not what tests/cases/drill.py writes")
 else:
     (HERE / "stdin").write_bytes(script)
     (HERE / "stdout").write_text(text)

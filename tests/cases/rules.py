@@ -2,14 +2,14 @@
 """Writes crates/rules_test/stdin and stdout: records at and past the limit of every rule of 01, with the answer that 01 gives.
 
 Each case says by its label whether the rule is kept (`at`) or broken (`past`); `keeps` below is 01's list of rules, written down once
-more from its sentences, and has to agree with every label. Run it from anywhere: python3 tests/rules_cases.py; with --check it writes
+more from its sentences, and has to agree with every label. Run it from anywhere: python3 tests/cases/rules.py; with --check it writes
 nothing and fails where the files are others.
 """
 import copy
 import pathlib
 import sys
 
-HERE = pathlib.Path(__file__).resolve().parent.parent / "crates" / "rules_test"
+HERE = pathlib.Path(__file__).resolve().parent.parent.parent / "crates" / "rules_test"
 TOP = 4_294_967_295
 CLOCK_END = 2**60
 NUMBERS = {
@@ -293,7 +293,7 @@ def main():
     assert len(c.stdin) <= 65_536, len(c.stdin)
     if sys.argv[1:] == ["--check"]:
         if ((HERE / "stdin").read_bytes(), (HERE / "stdout").read_text()) != (c.stdin, c.stdout):
-            sys.exit("crates/rules_test: stdin or stdout is not what tests/rules_cases.py writes")
+            sys.exit("crates/rules_test: stdin or stdout is not what tests/cases/rules.py writes")
     else:
         (HERE / "stdin").write_bytes(c.stdin)
         (HERE / "stdout").write_text(c.stdout)
