@@ -44,7 +44,7 @@ pub refusals-in-order : RefusalsInOrder
 unfolding decoded
 refusals-in-order =
     record {
-      opens = λ segments clock. refl;
+      opens = λ differ segments clock. refl;
       writes = λ bytes e. refl;
       delivers = λ clock datagram h payload e. refl;
       drives = λ clock e. refl;

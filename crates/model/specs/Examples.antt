@@ -245,6 +245,21 @@ pub record Examples : Type 0 where
       ≡ 2 ∷ 5_600 ∷ 400_000_000 ∷ []
   -- "if deadline is at most now and remote acked differs from seq": the timer is not due if everything is acknowledged
   pub idle-not-due : (after (driveCall 1_000_000_000 ∷ []) (fresh 1 2 10 0)) .sender .cwnd ≡ 2_800
+  -- "If an error is set and queue and outgoing store are empty, the answer is done": with nothing stored or queued and no error it is ok
+  pub idle-drive : linesOf (driveCall 0 ∷ []) (fresh 1 2 10 0) ≡ line Ready 0 [] ∷ []
+  -- every drive queues the packets that wait, also after earlier ones were acknowledged
+  pub queued-again :
+      (after
+      (writeCall aaa
+      ∷ writeCall bcd
+      ∷ driveCall 0
+      ∷ takeCall 14_000
+      ∷ deliverCall (ackOf 1) 5
+      ∷ driveCall 5
+      ∷ driveCall 1_000_000_005
+      ∷ [])
+      (fresh 1 2 10 0)) .queue .entries
+      ≡ packet 1 23 ∷ []
   -- "at most the ceiling of equal-length entries": of 23, 23, 23 and 21 bytes at ceiling 2
   pub batches :
       map countOf

@@ -5,7 +5,7 @@ use Prim.Native.Nat.{ℕ, _≤_, _<_}
 use mathlib.Core.Path.{_≡_}
 use mathlib.Core.List.{[], _∷_, map}
 use mathlib.Core.Option.{Option, none, some}
-use mathlib.Core.Bool.{true, false}
+use mathlib.Core.Bool.{Bool, true, false}
 use lib.ListN.{length, getD}
 use Rattle.error.specs.Answers.{numberOf}
 use Rattle.error.specs.declared.UdxError.the-variants as error
@@ -19,7 +19,7 @@ use Rattle.model.specs.Lists.{Bytes}
 use Rattle.model.specs.Stream.{End}
 use Rattle.model.specs.Answers.{Test}
 use Rattle.model.specs.Rules.{rules}
-use Rattle.model.specs.Sending.{openTests, writeTests, closeTests}
+use Rattle.model.specs.Sending.{openTestsOn, writeTests, closeTests}
 use Rattle.model.specs.Receiving.{deliverTests, readNext, readTests, read}
 use Rattle.model.specs.Driving.{driveTests, takeTests}
 
@@ -40,8 +40,7 @@ undecodedBy (header.Packet h) = none
 undecodedBy (header.Refused why) = some (numberOf why)
 
 pub record RefusalsInOrder : Type 0 where
-  -- besides refusal 1, of which an open checks only the stores' lengths (records/specs/Open.antt)
-  pub opens : (segments clock : ℕ) → map number (openTests segments clock) ≡ 3 ∷ 4 ∷ []
+  pub opens : (differ : Bool) (segments clock : ℕ) → map number (openTestsOn differ segments clock) ≡ 1 ∷ 3 ∷ 4 ∷ []
   pub writes : (bytes : Bytes) (e : End) → map number (writeTests bytes e) ≡ 1 ∷ 6 ∷ 14 ∷ 15 ∷ 16 ∷ 17 ∷ []
   pub delivers : (clock : ℕ) (datagram : Bytes) (h : Header) (payload : Bytes) (e : End)
       → map number (deliverTests clock datagram h payload e) ≡ 1 ∷ 4 ∷ 5 ∷ 6 ∷ 7 ∷ 8 ∷ 9 ∷ 10 ∷ 11 ∷ 12 ∷ 13 ∷ []

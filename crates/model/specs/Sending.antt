@@ -28,6 +28,10 @@ openTests segments clock =
     ∷ record { holds = leb (2 ^ 60) clock; refusal = refusal.BadClock }
     ∷ []
 
+-- on the records refusal 1 comes first: "Open tests the lengths only", whether a lent store has another length than 01's
+abbrev pub openTestsOn : (differ : Bool) (segments clock : ℕ) → List Test
+openTestsOn differ segments clock = record { holds = differ; refusal = refusal.BrokenRecords } ∷ openTests segments clock
+
 unfoldable pub openRefusal : (segments clock : ℕ) → Option Refusal
 openRefusal segments clock = first (openTests segments clock)
 

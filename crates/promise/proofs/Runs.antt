@@ -12,7 +12,6 @@ use lib.ListN.{length, take, drop}
 use lib.Seq.{take-append-seam}
 use borrow.Author.Tests.{leb-false}
 use Rattle.error.specs.declared.Refusal.{Refusal}
-use Rattle.error.specs.declared.Refusal.the-variants.{BrokenRecords}
 use Rattle.error.specs.declared.Outcome.the-variants.{Ready, Nothing}
 use Rattle.model.specs.Lists.{Bytes}
 use Rattle.model.specs.Stream.{End, fresh}
@@ -156,7 +155,7 @@ ready-none (some why) e = let z : _≡_ {A = ℕ} 0 1 = cc in absurd (omega arit
 
 module _ (local remote segments clock : ℕ) (l : Lent) (o : Opened) (h : OpenedBy local remote segments clock l o) where
   abbrev tests : List Test
-  tests = record { holds = storesTest (l .outgoing) (l .incoming) (l .headers); refusal = BrokenRecords } ∷ model.openTests segments clock
+  tests = model.openTestsOn (storesTest (l .outgoing) (l .incoming) (l .headers)) segments clock
 
   why-none : openWhy segments clock (l .outgoing) (l .incoming) (l .headers) ≡ none
   why-none = ready-none _ (sym (h .opens .outcome) ∙ h .ready)

@@ -22,7 +22,7 @@ use Rattle.model.specs.Lists.{Bytes, isEmpty}
 use Rattle.model.specs.Stream.{End}
 use Rattle.model.specs.Answers.{Test, first, Answer, gate}
 use Rattle.model.specs.Rules.{rules}
-use Rattle.model.specs.Sending.{writeTests, writeRefusal, writeLoop, writeOutcome, write, closeRefusal, closeTests, close}
+use Rattle.model.specs.Sending.{openTestsOn, writeTests, writeRefusal, writeLoop, writeOutcome, write, closeRefusal, closeTests, close}
 use Rattle.model.specs.Receiving.{deliverTests, deliverRefusal, deliver, readNext, readOutcome, readAnswer, readRefusal, readTests, read}
 use Rattle.model.specs.Driving as model
 use Rattle.model.specs.Driving.{drained, driveRefusal, driveTests, drive, takeRefusal, takeTests}
@@ -30,8 +30,8 @@ use Rattle.model.specs.Order.{number, refusedBy, undecodedBy}
 use Rattle.model.proofs.Lists.{by-test}
 use Rattle.model.proofs.Order.{refusals-in-order}
 use Rattle.model.proofs.Slots.{no-some, some-inj}
-use Rattle.records.specs.Open.{openWhy, openedOutcome}
-use Rattle.promise_sentences.specs.Refusals.{noTest, FirstAnswers, NoOther, NoneHolds, InOrder, openTestsOn, OpenRefusals, errorNumber, OtherBytes, RefusalSentences}
+use Rattle.records.specs.Open.{storesTest, openWhy, openedOutcome}
+use Rattle.promise_sentences.specs.Refusals.{noTest, FirstAnswers, NoOther, NoneHolds, InOrder, OpenRefusals, errorNumber, OtherBytes, RefusalSentences}
 
 -- a list of tests
 
@@ -97,11 +97,11 @@ writes bytes count = by-test (λ (o : Outcome). refusedBy o ≡ none) (isEmpty b
 
 pub open-refusals : OpenRefusals
 unfolding openWhy
-open-refusals = record { numbers = λ segments clock outgoing incoming headers. ap (1 ∷_) (refusals-in-order .opens segments clock); first-of = λ segments clock outgoing incoming headers. refl }
+open-refusals = record { numbers = λ segments clock outgoing incoming headers. refusals-in-order .opens (storesTest outgoing incoming headers) segments clock; first-of = λ segments clock outgoing incoming headers. refl }
 
 module _ (segments clock : ℕ) (outgoing incoming headers : Bytes) where
   abbrev tests : List Test
-  tests = openTestsOn segments clock outgoing incoming headers
+  tests = openTestsOn (storesTest outgoing incoming headers) segments clock
 
   pub open-order : (o : Outcome) → o ≡ openedOutcome (openWhy segments clock outgoing incoming headers) → InOrder tests (1 ∷ 3 ∷ 4 ∷ []) o
   open-order o e =

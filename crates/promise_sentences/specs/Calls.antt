@@ -42,6 +42,7 @@ use Rattle.model.specs.Stream as model-stream
 use Rattle.model.specs.Answers.{Answer}
 use Rattle.model.specs.Rules.{rules}
 use Rattle.model.specs.Sending as model
+use Rattle.model.specs.Sending.{openTestsOn}
 use Rattle.model.specs.Receiving as model-in
 use Rattle.model.specs.Driving as model-out
 use Rattle.model.specs.Calls.{Call, answer}
@@ -49,6 +50,7 @@ use Rattle.model.specs.Order.{refusedBy, undecodedBy}
 use Rattle.records.specs.declared.Stream.{Stream}
 use Rattle.records.specs.declared.Totals.{Totals}
 use Rattle.records.specs.declared.«open».Opened.{Opened}
+use Rattle.records.specs.Open.{storesTest}
 use Rattle.records.specs.Seen.{Lent, seen}
 use Rattle.records.specs.Beside.{Beside}
 use Rattle.records.proofs.«open».«open» as opening
@@ -63,7 +65,7 @@ use Rattle.udx.proofs.read.read as read
 use Rattle.udx.proofs.close.close as close
 use Rattle.udx.proofs.look.look as look
 use Rattle.promise_sentences.specs.Answers.{StreamNumbers, numbersOn, Shows}
-use Rattle.promise_sentences.specs.Refusals.{InOrder, openTestsOn}
+use Rattle.promise_sentences.specs.Refusals.{InOrder}
 
 -- the sentences
 
@@ -114,7 +116,7 @@ freshNumbers local remote segments clock =
 
 -- what an open returns
 pub record OpenSays (local remote segments clock : ℕ) (outgoing incoming headers : Bytes) (r : Opened) : Type 0 where
-  pub in-order : InOrder (openTestsOn segments clock outgoing incoming headers) (1 ∷ 3 ∷ 4 ∷ []) (r .outcome)
+  pub in-order : InOrder (openTestsOn (storesTest outgoing incoming headers) segments clock) (1 ∷ 3 ∷ 4 ∷ []) (r .outcome)
   pub ready : refusedBy (r .outcome) ≡ none → r .outcome ≡ Ready
   pub numbers : r .outcome ≡ Ready → numbersOn (r .stream) (r .totals) ≡ freshNumbers local remote segments clock
   -- 'Fresh': "stores empty", "queue empty", whatever the words hold: open is not lent them

@@ -19,7 +19,7 @@ use Rattle.model.specs.Lists.{Bytes}
 use Rattle.model.specs.Stream.{End}
 use Rattle.model.specs.Answers.{Test, first}
 use Rattle.model.specs.Rules.{rules}
-use Rattle.model.specs.Sending.{openTests, writeTests, write, closeTests, close}
+use Rattle.model.specs.Sending.{openTestsOn, writeTests, write, closeTests, close}
 use Rattle.model.specs.Receiving.{deliverTests, deliver, readNext, readTests, read}
 use Rattle.model.specs.Driving as model
 use Rattle.model.specs.Driving.{driveTests, drive, takeTests}
@@ -47,15 +47,10 @@ NoneHolds tests = (k : ℕ) → getD tests k noTest .holds ≡ false
 abbrev pub InOrder : List Test → List ℕ → Outcome → Type 0
 InOrder tests numbers o = FirstAnswers tests numbers o × NoOther numbers o × (NoneHolds tests → refusedBy o ≡ none)
 
--- open on the records: refusal 1 checks "the lengths only", then come 3 and 4
-abbrev pub openTestsOn : (segments clock : ℕ) (outgoing incoming headers : Bytes) → List Test
-openTestsOn segments clock outgoing incoming headers =
-    record { holds = storesTest outgoing incoming headers; refusal = BrokenRecords } ∷ openTests segments clock
-
 pub record OpenRefusals : Type 0 where
-  pub numbers : (segments clock : ℕ) (outgoing incoming headers : Bytes) → map number (openTestsOn segments clock outgoing incoming headers) ≡ 1 ∷ 3 ∷ 4 ∷ []
+  pub numbers : (segments clock : ℕ) (outgoing incoming headers : Bytes) → map number (openTestsOn (storesTest outgoing incoming headers) segments clock) ≡ 1 ∷ 3 ∷ 4 ∷ []
   pub first-of : (segments clock : ℕ) (outgoing incoming headers : Bytes)
-      → openWhy segments clock outgoing incoming headers ≡ first (openTestsOn segments clock outgoing incoming headers)
+      → openWhy segments clock outgoing incoming headers ≡ first (openTestsOn (storesTest outgoing incoming headers) segments clock)
 
 -- refusals 14, 15 and 16
 abbrev pub errorNumber : UdxError → Option ℕ
@@ -71,7 +66,7 @@ OtherBytes bytes = getD bytes 0 0 ≡ 255 → getD bytes 1 0 ≡ 1 → ⊥
 pub record RefusalSentences : Type 0 where
   pub open-in-order : (local remote segments clock : ℕ) (outgoing incoming headers : Bytes) (r : Opened)
       → Opens local remote segments clock outgoing incoming headers r
-      → InOrder (openTestsOn segments clock outgoing incoming headers) (1 ∷ 3 ∷ 4 ∷ []) (r .outcome)
+      → InOrder (openTestsOn (storesTest outgoing incoming headers) segments clock) (1 ∷ 3 ∷ 4 ∷ []) (r .outcome)
   pub write-in-order : (bytes : Bytes) (e : End) → InOrder (writeTests bytes e) (1 ∷ 6 ∷ 14 ∷ 15 ∷ 16 ∷ 17 ∷ []) ((write bytes e) .outcome)
   pub deliver-in-order : (datagram : Bytes) (clock : ℕ) (e : End)
       → InOrder (deliverTests clock datagram (fields datagram) (drop 20 datagram) e) (1 ∷ 4 ∷ 5 ∷ 6 ∷ 7 ∷ 8 ∷ 9 ∷ 10 ∷ 11 ∷ 12 ∷ 13 ∷ [])
