@@ -144,7 +144,7 @@ pub fn send_state_packet(
     ensures { λ r. ⌜ StateQueued q t error remote seq ack (now (queue .entry)) (now (headers .entry)) r
         (now (queue .exit)) (now (headers .exit)) ⌝ }
 {
-    records::word_count(queue);
+    records::expose_length(queue);
     let h = state_header(error, remote, seq, ack);
     records_stores::put_header(headers, q.states, h);
     let at = q.count as usize;

@@ -70,7 +70,7 @@ pub fn handle_remote_ack(a: Acks, clock: Nanos, sent: &mut [u64; 64], n: u32) ->
     requires { ⌜ Timed a (clock .0) × InWindow (a .sender) n ⌝ }
     ensures { λ r. ⌜ AcksOne (clock .0) n a (now (sent .entry)) r (now (sent .exit)) ⌝ }
 {
-    records::word_count(sent);
+    records::expose_length(sent);
     let p = records::get_sent(sent, n);
     if records::is_stored(p, n) {
         let sender = left_sender(a.sender, p);

@@ -22,7 +22,7 @@ use Rattle.records.specs.Laid.{LaidReceiver}
 use Rattle.deliver_data.specs.Absorbing.{Accepted}
 use Rattle.deliver_parts.specs.declared.Delivered.{Delivered}
 use Rattle.deliver_notes.specs.Numbers.{countedReceived, clockedStream, ackedSender}
-use Rattle.deliver_parts.specs.Steps.{withSender, Measured, Sacked, Pushed, Ended, TakesData, withData, TookData}
+use Rattle.deliver_parts.specs.Steps.{withSenderAndTiming, Measured, Sacked, Pushed, Ended, TakesData, withData, TookData}
 use Rattle.deliver_all.specs.Handle.{withBegun, begun, Began, CanDeliver, withDelivered, Handled}
 
 -- there is room for one more state packet
@@ -66,7 +66,7 @@ module _ {s : Stream} {t : Totals} {clock : ℕ} {h : Header} {payload : Bytes} 
   pub handles : {held : List ℕ} {e : Delivered} {held′ queue″ : List ℕ} {incoming′ headers″ : Bytes}
       → TookData (b .stream) (b .totals) h payload held queue′ incoming headers′ e held′ queue″ incoming′ headers″
       → Handled s t clock h payload sent held queue incoming headers
-      (record { stream = withSender (ackedSender (e .stream .sender) (h .ack)) (e .stream .timing) (e .stream); totals = e .totals }) sent′ held′ queue″ incoming′ headers″
+      (record { stream = withSenderAndTiming (ackedSender (e .stream .sender) (h .ack)) (e .stream .timing) (e .stream); totals = e .totals }) sent′ held′ queue″ incoming′ headers″
   unfolding handleIncoming seen
   handles {held} {e} {held′} {queue″} {incoming′} {headers″} y =
       record {

@@ -6,13 +6,13 @@ ghost use Rattle.records.specs.Laid.{LaidReceiver};
 ghost use Rattle.deliver_data.specs.Absorbing.{Accepted, Cleared, Inserted, Advanced, Absorbed};
 use records::Held;
 use records::Receiver;
-use records::word_count;
+use records::expose_length;
 
 // Clears the words of the numbers from top to below n: once top is past them, a stale word would count as a packet.
 fn clear_gap(held: &mut [u64; 32], top: u32, n: u32)
     ensures { λ _. ⌜ Cleared (now (held .entry)) top n (now (held .exit)) ⌝ }
 {
-    word_count(held);
+    expose_length(held);
     let mut m = top;
     while m < n {
         records::clear_held(held, m);
@@ -48,7 +48,7 @@ fn insert(
     };
     let top = top_with(r.top, n);
     clear_gap(held, r.top, n);
-    word_count(held);
+    expose_length(held);
     records::put_held(held, p);
     records_stores::put_payload(incoming, n, payload);
     Receiver {

@@ -30,7 +30,7 @@ use Rattle.records.specs.Laid.{LaidReceiver}
 use Rattle.deliver_data.specs.Absorbing.{Absorbed}
 use Rattle.deliver_parts.specs.declared.Delivered.{Delivered}
 use Rattle.deliver_notes.specs.Numbers.{countedData}
-use Rattle.deliver_parts.specs.Steps.{withSender, withReceiver, Sacked, Pushed, Ended, withData, TookData}
+use Rattle.deliver_parts.specs.Steps.{withSenderAndTiming, withReceiver, Sacked, Pushed, Ended, withData, TookData}
 
 -- SACK blocks
 
@@ -41,7 +41,7 @@ module _ (s : Stream) (t : Totals) (clock : ℕ) (h : Header) (payload : Bytes) 
 
   pub sacked : hasType 4 (h .typ) ≡ true → {a : Acks} {sent′ : List ℕ} → AcksBlocks clock payload acksOf sent a sent′
       → Sacked s t clock h payload sent
-      (record { stream = withSender (a .sender) (record { rtt = a .rtt; deadline = s .timing .deadline }) s; totals = a .totals }) sent′
+      (record { stream = withSenderAndTiming (a .sender) (record { rtt = a .rtt; deadline = s .timing .deadline }) s; totals = a .totals }) sent′
   unfolding onSack
   sacked is x = record { seen-after = λ l. x .seen-after s l ∙ rw is refl; same = x .same; others = refl }
 

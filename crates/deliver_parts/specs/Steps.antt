@@ -26,8 +26,8 @@ use Rattle.deliver_data.specs.Absorbing.{Accepted}
 use Rattle.deliver_parts.specs.declared.Delivered.{Delivered}
 
 -- the stream with another sender and timing
-abbrev pub withSender : Sender → Timing → Stream → Stream
-withSender x t s =
+abbrev pub withSenderAndTiming : Sender → Timing → Stream → Stream
+withSenderAndTiming x t s =
     record {
       ids = s .ids;
       sender = x;
@@ -61,7 +61,7 @@ pub record Measured (s : Stream) (clock : ℕ) : Type 0 where
 pub record Sacked (s : Stream) (t : Totals) (clock : ℕ) (h : Header) (payload : Bytes) (sent : List ℕ) (r : Delivered) (sent′ : List ℕ) : Type 0 where
   pub seen-after : (l : Lent) → seen (r .stream) (r .totals) (withWords sent′ l) ≡ onSack clock h payload (seen s t (withWords sent l))
   pub same : SameNumbers (s .sender) (r .stream .sender)
-  pub others : r .stream ≡ withSender (r .stream .sender) (r .stream .timing) s
+  pub others : r .stream ≡ withSenderAndTiming (r .stream .sender) (r .stream .timing) s
 
 -- END
 

@@ -62,9 +62,8 @@ fn run(
     }
 }
 
-fn main() {
-    let mut input = [0u8; 65_536];
-    let n = io::read_full(STDIN_FILENO, &mut input);
+// Runs a drill on two fresh ends.
+fn drill(script: &[u8]) {
     let mut outgoing_0 = [0u8; OUTGOING_STORE];
     let mut incoming_0 = [0u8; INCOMING_STORE];
     let mut headers_0 = [0u8; HEADER_STORE];
@@ -86,23 +85,29 @@ fn main() {
         &incoming_1,
         &headers_1,
     );
+    run(
+        ends,
+        script,
+        &mut outgoing_0,
+        &mut incoming_0,
+        &mut headers_0,
+        &mut kept_0,
+        &mut outgoing_1,
+        &mut incoming_1,
+        &mut headers_1,
+        &mut kept_1,
+        &mut scratch,
+        &mut spare_outgoing,
+        &mut spare_incoming,
+        &mut spare_headers,
+        &mut line,
+    );
+}
+
+fn main() {
+    let mut input = [0u8; 65_536];
+    let n = io::read_full(STDIN_FILENO, &mut input);
     if n <= 65_536 {
-        run(
-            ends,
-            &input[0..n],
-            &mut outgoing_0,
-            &mut incoming_0,
-            &mut headers_0,
-            &mut kept_0,
-            &mut outgoing_1,
-            &mut incoming_1,
-            &mut headers_1,
-            &mut kept_1,
-            &mut scratch,
-            &mut spare_outgoing,
-            &mut spare_incoming,
-            &mut spare_headers,
-            &mut line,
-        );
+        drill(&input[0..n]);
     }
 }

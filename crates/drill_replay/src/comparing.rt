@@ -96,6 +96,15 @@ fn goes_on(answer: &[u8], at: usize, line: &[u8], len: usize) -> bool {
     check::same(&answer[at..end], &line[0..len])
 }
 
+fn differs(lines: u64, at: usize, len: usize) -> Compared {
+    Compared {
+        same: false,
+        lines,
+        at,
+        len,
+    }
+}
+
 // Runs a script from these ends up to the first line that differs from the answer's.
 fn compare_from(
     fresh: Ends,
@@ -142,12 +151,7 @@ fn compare_from(
         );
         let len = t.len;
         if !goes_on(answer, at, line, len) {
-            return Compared {
-                same: false,
-                lines,
-                at,
-                len,
-            };
+            return differs(lines, at, len);
         }
         at = std::num::wrapping_add_usize(at, len);
         lines = std::num::wrapping_add_u64(lines, 1);

@@ -8,48 +8,60 @@ use session_script::u16_at;
 use session_script::u32_at;
 use session_script::u64_at;
 
+// Delivers these bytes, `length` of them, which follow the command.
+pub struct Raw {
+    pub end: u8,
+    pub clock: Nanos,
+    pub length: u16,
+}
+
+// Gives an empty end these numbers.
+pub struct Base {
+    pub end: u8,
+    pub seq: u32,
+    pub ack: u32,
+    pub window: u32,
+}
+
+// Opens an end anew.
+pub struct Open {
+    pub end: u8,
+    pub local: u32,
+    pub remote: u32,
+    pub ceiling: u8,
+    pub clock: Nanos,
+}
+
+// Takes into a buffer of `length` bytes.
+pub struct Room {
+    pub end: u8,
+    pub length: u16,
+}
+
+// Encodes a header into a buffer of `length` bytes.
+pub struct Encode {
+    pub length: u8,
+    pub header: Header,
+}
+
+// Makes a call on a copy of an end with one thing broken.
+pub struct Spoil {
+    pub end: u8,
+    pub which: u8,
+    pub call: u8,
+    pub clock: Nanos,
+}
+
 pub enum Drill {
-    Raw {
-        end: u8,
-        clock: Nanos,
-        length: u16,
-    },
-    Base {
-        end: u8,
-        seq: u32,
-        ack: u32,
-        window: u32,
-    },
-    Open {
-        end: u8,
-        local: u32,
-        remote: u32,
-        ceiling: u8,
-        clock: Nanos,
-    },
-    Room {
-        end: u8,
-        length: u16,
-    },
-    Look {
-        end: u8,
-    },
-    Numbers {
-        end: u8,
-    },
-    Encode {
-        length: u8,
-        header: Header,
-    },
-    Decode {
-        length: u8,
-    },
-    Spoil {
-        end: u8,
-        which: u8,
-        call: u8,
-        clock: Nanos,
-    },
+    Raw(Raw),
+    Base(Base),
+    Open(Open),
+    Room(Room),
+    Look { end: u8 },
+    Numbers { end: u8 },
+    Encode(Encode),
+    Decode { length: u8 },
+    Spoil(Spoil),
     // Ends the run.
     Bad,
     // A session command, or not a command at all: the session decides.
@@ -87,7 +99,7 @@ fn more(s: &[u8]) -> usize
 }
 
 // The header operand of an encode.
-fn header(s: &[u8]) -> Header {
+fn read_header(s: &[u8]) -> Header {
     Header {
         typ: byte_at(s, 2),
         data_offset: byte_at(s, 3),
@@ -98,8 +110,16 @@ fn header(s: &[u8]) -> Header {
     }
 }
 
-fn open(s: &[u8], end: u8) -> Drill {
-    Drill::Open {
+fn read_raw(s: &[u8], end: u8) -> Raw {
+    Raw {
+        end,
+        clock: Nanos(u64_at(s, 2)),
+        length: u16_at(s, 10),
+    }
+}
+
+fn read_open(s: &[u8], end: u8) -> Open {
+    Open {
         end,
         local: u32_at(s, 2),
         remote: u32_at(s, 6),
@@ -108,8 +128,8 @@ fn open(s: &[u8], end: u8) -> Drill {
     }
 }
 
-fn base(s: &[u8], end: u8) -> Drill {
-    Drill::Base {
+fn read_base(s: &[u8], end: u8) -> Base {
+    Base {
         end,
         seq: u32_at(s, 2),
         ack: u32_at(s, 6),
@@ -117,8 +137,22 @@ fn base(s: &[u8], end: u8) -> Drill {
     }
 }
 
-fn spoil(s: &[u8], end: u8) -> Drill {
-    Drill::Spoil {
+fn read_room(s: &[u8], end: u8) -> Room {
+    Room {
+        end,
+        length: u16_at(s, 2),
+    }
+}
+
+fn read_encode(s: &[u8], length: u8) -> Encode {
+    Encode {
+        length,
+        header: read_header(s),
+    }
+}
+
+fn read_spoil(s: &[u8], end: u8) -> Spoil {
+    Spoil {
         end,
         which: byte_at(s, 2),
         call: byte_at(s, 3),
@@ -130,25 +164,15 @@ fn spoil(s: &[u8], end: u8) -> Drill {
 fn operands(s: &[u8]) -> Drill {
     let end = byte_at(s, 1);
     match byte_at(s, 0) {
-        16 => Drill::Raw {
-            end,
-            clock: Nanos(u64_at(s, 2)),
-            length: u16_at(s, 10),
-        },
-        17 => base(s, end),
-        18 => open(s, end),
-        19 => Drill::Room {
-            end,
-            length: u16_at(s, 2),
-        },
+        16 => Drill::Raw(read_raw(s, end)),
+        17 => Drill::Base(read_base(s, end)),
+        18 => Drill::Open(read_open(s, end)),
+        19 => Drill::Room(read_room(s, end)),
         20 => Drill::Look { end },
         21 => Drill::Numbers { end },
-        22 => Drill::Encode {
-            length: end,
-            header: header(s),
-        },
+        22 => Drill::Encode(read_encode(s, end)),
         23 => Drill::Decode { length: end },
-        24 => spoil(s, end),
+        24 => Drill::Spoil(read_spoil(s, end)),
         _ => Drill::Session,
     }
 }
@@ -156,38 +180,15 @@ fn operands(s: &[u8]) -> Drill {
 // Whether the operands are in range.
 fn in_range(drill: Drill) -> bool {
     match drill {
-        Drill::Raw {
-            end,
-            clock: _,
-            length: _,
-        } => end <= 1,
-        Drill::Base {
-            end,
-            seq: _,
-            ack: _,
-            window: _,
-        } => end <= 1,
-        Drill::Open {
-            end,
-            local: _,
-            remote: _,
-            ceiling: _,
-            clock: _,
-        } => end <= 1,
-        Drill::Room { end, length: size } => both(end <= 1, size <= 14_000),
+        Drill::Raw(r) => r.end <= 1,
+        Drill::Base(b) => b.end <= 1,
+        Drill::Open(o) => o.end <= 1,
+        Drill::Room(r) => both(r.end <= 1, r.length <= 14_000),
         Drill::Look { end } => end <= 1,
         Drill::Numbers { end } => end <= 1,
-        Drill::Encode {
-            length: size,
-            header: _,
-        } => size <= 64,
+        Drill::Encode(e) => e.length <= 64,
         Drill::Decode { length: size } => size <= 64,
-        Drill::Spoil {
-            end,
-            which,
-            call,
-            clock: _,
-        } => both(end <= 1, both(which <= 24, call <= 7)),
+        Drill::Spoil(s) => both(s.end <= 1, both(s.which <= 24, s.call <= 7)),
         Drill::Bad => false,
         Drill::Session => true,
     }

@@ -9,13 +9,18 @@ use drill_broken::SPARE_HEADERS;
 use drill_broken::SPARE_INCOMING;
 use drill_broken::SPARE_OUTGOING;
 use drill_lines::Name;
+use drill_script::Base;
 use drill_script::Drill;
+use drill_script::Encode;
+use drill_script::Open;
+use drill_script::Raw;
+use drill_script::Room;
+use drill_script::Spoil;
 use error::Outcome;
 use error::UdxError;
 use packet::Decoded;
 use packet::Header;
 use records::least;
-use rtt::Nanos;
 use session_ends::SessionEnd;
 use session_kept::KEPT_STORE;
 use session_text::LINE;
@@ -34,9 +39,8 @@ fn part(s: &[u8], place: u8, n: u16) -> &[u8] {
 
 fn raw(
     e: SessionEnd,
-    number: u8,
-    clock: Nanos,
-    datagram: &[u8],
+    r: Raw,
+    s: &[u8],
     outgoing: &[u8],
     incoming: &mut [u8],
     headers: &mut [u8],
@@ -44,10 +48,12 @@ fn raw(
 ) -> Acted
     ensures { λ r. ⌜ r .len ≤ 8_400 ⌝ }
 {
+    let datagram = part(s, 12, r.length);
+    let clock = r.clock;
     let c = session_ends::deliver(e, datagram, clock, outgoing, incoming, headers);
     let end = c.end;
     let outcome = c.outcome;
-    let len = drill_lines::put_line(line, Name::Raw, number, outcome);
+    let len = drill_lines::put_line(line, Name::Raw, r.end, outcome);
     Acted { end, len }
 }
 
@@ -98,14 +104,14 @@ fn is_empty(e: SessionEnd) -> bool {
 }
 
 // Nothing is stored, held or queued, so the words can be cleared.
-fn based(e: SessionEnd, seq: u32, ack: u32, window: u32) -> SessionEnd {
+fn based(e: SessionEnd, b: Base) -> SessionEnd {
     let mut s = e.stream;
-    s.sender.seq = seq;
-    s.sender.remote_acked = seq;
-    s.sender.cwnd = window;
-    s.receiver.ack = ack;
-    s.receiver.read_cursor = ack;
-    s.receiver.top = ack;
+    s.sender.seq = b.seq;
+    s.sender.remote_acked = b.seq;
+    s.sender.cwnd = b.window;
+    s.receiver.ack = b.ack;
+    s.receiver.read_cursor = b.ack;
+    s.receiver.top = b.ack;
     let totals = e.totals;
     let kept = e.kept;
     SessionEnd {
@@ -118,17 +124,17 @@ fn based(e: SessionEnd, seq: u32, ack: u32, window: u32) -> SessionEnd {
     }
 }
 
-fn base(e: SessionEnd, number: u8, seq: u32, ack: u32, window: u32, line: &mut [u8; LINE]) -> Acted
+fn base(e: SessionEnd, b: Base, line: &mut [u8; LINE]) -> Acted
     ensures { λ r. ⌜ r .len ≤ 8_400 ⌝ }
 {
-    if both(is_empty(e), 1_400 <= window) {
-        let len = drill_lines::put_line(line, Name::Base, number, Outcome::Ready);
+    if both(is_empty(e), 1_400 <= b.window) {
+        let len = drill_lines::put_line(line, Name::Base, b.end, Outcome::Ready);
         return Acted {
-            end: based(e, seq, ack, window),
+            end: based(e, b),
             len,
         };
     }
-    let len = drill_lines::put_line(line, Name::Base, number, Outcome::Nothing);
+    let len = drill_lines::put_line(line, Name::Base, b.end, Outcome::Nothing);
     Acted { end: e, len }
 }
 
@@ -142,11 +148,7 @@ fn is_ready(outcome: Outcome) -> bool {
 // Reopens the end; its words stay as they are.
 fn open(
     e: SessionEnd,
-    number: u8,
-    local: u32,
-    remote: u32,
-    ceiling: u8,
-    clock: Nanos,
+    opened: Open,
     outgoing: &[u8],
     incoming: &[u8],
     headers: &[u8],
@@ -154,9 +156,18 @@ fn open(
 ) -> Acted
     ensures { λ r. ⌜ r .len ≤ 8_400 ⌝ }
 {
-    let o = udx::open::open(local, remote, ceiling, clock, outgoing, incoming, headers);
+    let clock = opened.clock;
+    let o = udx::open::open(
+        opened.local,
+        opened.remote,
+        opened.ceiling,
+        clock,
+        outgoing,
+        incoming,
+        headers,
+    );
     let outcome = o.outcome;
-    let len = drill_lines::put_line(line, Name::Open, number, outcome);
+    let len = drill_lines::put_line(line, Name::Open, opened.end, outcome);
     let mut end = e;
     if is_ready(outcome) {
         let stream = o.stream;
@@ -184,8 +195,7 @@ fn next_sum(sum: u64, b: u8) -> u64 {
 
 fn room(
     e: SessionEnd,
-    number: u8,
-    size: u16,
+    r: Room,
     outgoing: &[u8],
     incoming: &[u8],
     headers: &[u8],
@@ -197,7 +207,7 @@ fn room(
 {
     let c = session_turn::take_and_keep(
         e,
-        size as usize,
+        r.length as usize,
         outgoing,
         incoming,
         headers,
@@ -209,7 +219,7 @@ fn room(
     let outcome = c.outcome;
     let len = drill_lines::put_room(
         line,
-        number,
+        r.end,
         outcome,
         c.count as u64,
         c.segment as u64,
@@ -226,13 +236,12 @@ fn look<'a>(
     incoming: &[u8],
     headers: &'a [u8],
     line: &mut [u8; LINE],
-) -> Acted
-    ensures { λ r. ⌜ r .len ≤ 8_400 ⌝ }
+) -> usize
+    ensures { λ r. ⌜ r ≤ 8_400 ⌝ }
 {
     let shown = session_ends::look(e, outgoing, incoming, headers);
     let n = least(shown.len(), 4_096);
-    let len = drill_lines::put_look(line, number, &shown[0..n]);
-    Acted { end: e, len }
+    drill_lines::put_look(line, number, &shown[0..n])
 }
 
 fn encode_into(h: Header, buf: &mut [u8], line: &mut [u8; LINE]) -> usize
@@ -244,11 +253,12 @@ fn encode_into(h: Header, buf: &mut [u8], line: &mut [u8; LINE]) -> usize
 }
 
 // Encodes into a buffer filled with aa, so that bytes left alone can be seen.
-fn encode(size: u8, h: Header, line: &mut [u8; LINE]) -> usize
+fn encode(x: Encode, line: &mut [u8; LINE]) -> usize
     ensures { λ r. ⌜ r ≤ 8_400 ⌝ }
 {
     let mut buf = [0xaau8; 64];
-    let n = least(size as usize, 64);
+    let n = least(x.length as usize, 64);
+    let h = x.header;
     encode_into(h, &mut buf[0..n], line)
 }
 
@@ -259,6 +269,42 @@ fn decode(bytes: &[u8], line: &mut [u8; LINE]) -> usize
         Decoded::Packet(h) => drill_lines::put_decoded(line, h),
         Decoded::Refused(why) => drill_lines::put_not_decoded(line, Outcome::Refused(why)),
     }
+}
+
+fn put_numbers(e: SessionEnd, number: u8, line: &mut [u8; LINE]) -> usize
+    ensures { λ r. ⌜ r ≤ 8_400 ⌝ }
+{
+    let all = numbers(e);
+    drill_lines::put_all_numbers(line, number, &all)
+}
+
+fn spoil(
+    e: SessionEnd,
+    x: Spoil,
+    outgoing: &[u8; OUTGOING_STORE],
+    incoming: &[u8; INCOMING_STORE],
+    headers: &[u8; HEADER_STORE],
+    spare_outgoing: &mut [u8; SPARE_OUTGOING],
+    spare_incoming: &mut [u8; SPARE_INCOMING],
+    spare_headers: &mut [u8; SPARE_HEADERS],
+    line: &mut [u8; LINE],
+) -> usize
+    ensures { λ r. ⌜ r ≤ 8_400 ⌝ }
+{
+    let clock = x.clock;
+    let outcome = drill_broken::spoil(
+        e,
+        x.which,
+        x.call,
+        clock,
+        outgoing,
+        incoming,
+        headers,
+        spare_outgoing,
+        spare_incoming,
+        spare_headers,
+    );
+    drill_lines::put_line(line, Name::Spoil, x.end, outcome)
 }
 
 // Runs a drill command; s starts with its bytes.
@@ -278,89 +324,30 @@ pub fn act(
 ) -> Acted
     ensures { λ r. ⌜ r .len ≤ 8_400 ⌝ }
 {
-    match drill {
-        Drill::Raw {
-            end,
-            clock,
-            length: size,
-        } => {
-            let datagram = part(s, 12, size);
-            raw(e, end, clock, datagram, outgoing, incoming, headers, line)
+    let len = match drill {
+        Drill::Raw(r) => return raw(e, r, s, outgoing, incoming, headers, line),
+        Drill::Base(b) => return base(e, b, line),
+        Drill::Open(o) => return open(e, o, outgoing, incoming, headers, line),
+        Drill::Room(r) => {
+            return room(e, r, outgoing, incoming, headers, kept, scratch, line);
         }
-        Drill::Base {
-            end,
-            seq,
-            ack,
-            window,
-        } => base(e, end, seq, ack, window, line),
-        Drill::Open {
-            end,
-            local,
-            remote,
-            ceiling,
-            clock,
-        } => open(
-            e,
-            end,
-            local,
-            remote,
-            ceiling,
-            clock,
-            outgoing,
-            incoming,
-            headers,
-            line,
-        ),
-        Drill::Room { end, length: size } => room(
-            e,
-            end,
-            size,
-            outgoing,
-            incoming,
-            headers,
-            kept,
-            scratch,
-            line,
-        ),
         Drill::Look { end } => look(e, end, outgoing, incoming, headers, line),
-        Drill::Numbers { end } => {
-            let all = numbers(e);
-            let len = drill_lines::put_all_numbers(line, end, &all);
-            Acted { end: e, len }
-        }
-        Drill::Encode {
-            length: size,
-            header,
-        } => {
-            let len = encode(size, header, line);
-            Acted { end: e, len }
-        }
-        Drill::Decode { length: size } => {
-            let len = decode(part(s, 2, size as u16), line);
-            Acted { end: e, len }
-        }
-        Drill::Spoil {
-            end,
-            which,
-            call,
-            clock,
-        } => {
-            let outcome = drill_broken::spoil(
-                e,
-                which,
-                call,
-                clock,
-                outgoing,
-                incoming,
-                headers,
-                spare_outgoing,
-                spare_incoming,
-                spare_headers,
-            );
-            let len = drill_lines::put_line(line, Name::Spoil, end, outcome);
-            Acted { end: e, len }
-        }
-        Drill::Bad => Acted { end: e, len: 0 },
-        Drill::Session => Acted { end: e, len: 0 },
-    }
+        Drill::Numbers { end } => put_numbers(e, end, line),
+        Drill::Encode(x) => encode(x, line),
+        Drill::Decode { length: size } => decode(part(s, 2, size as u16), line),
+        Drill::Spoil(x) => spoil(
+            e,
+            x,
+            outgoing,
+            incoming,
+            headers,
+            spare_outgoing,
+            spare_incoming,
+            spare_headers,
+            line,
+        ),
+        Drill::Bad => 0,
+        Drill::Session => 0,
+    };
+    Acted { end: e, len }
 }

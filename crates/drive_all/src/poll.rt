@@ -50,7 +50,7 @@ fn flush(s: Stream, sent: &mut [u64; 64], queue: &mut [u64; 128]) -> Stream
     let before = s.sender;
     let q = s.queue;
     let f = drive_flush::flush_waiting_packets(before, q, sent, queue);
-    records::word_count(queue);
+    records::expose_length(queue);
     let sender = f.sender;
     let queued = f.queue;
     let left = drive_drain::left_to_take(queued);

@@ -11,7 +11,7 @@ use records::Entry;
 use records::Queue;
 use records::Sender;
 use records::Sent;
-use records::word_count;
+use records::expose_length;
 
 pub struct Flushed {
     pub sender: Sender,
@@ -94,8 +94,8 @@ pub fn flush_waiting_packets(
     requires { ⌜ Roomy s q (now sent) ⌝ }
     ensures { λ r. ⌜ Flushes s q (now (sent .entry)) (now (queue .entry)) r (now (sent .exit)) (now (queue .exit)) ⌝ }
 {
-    word_count(sent);
-    word_count(queue);
+    expose_length(sent);
+    expose_length(queue);
     let mut inflight = s.inflight;
     let mut count = q.count;
     let mut n = s.remote_acked;

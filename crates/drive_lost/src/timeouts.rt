@@ -10,7 +10,7 @@ use constants::UDX_MAX_TRANSMITS;
 use picks::less;
 use records::Sender;
 use records::Sent;
-use records::word_count;
+use records::expose_length;
 
 pub struct Passed {
     pub sender: Sender,
@@ -51,7 +51,7 @@ pub fn time_out_packets(s: Sender, sent: &mut [u64; 64]) -> Passed
     requires { ⌜ AllSentBounds s (now sent) ⌝ }
     ensures { λ r. ⌜ TimesOutPackets s (now (sent .entry)) r (now (sent .exit)) ⌝ }
 {
-    word_count(sent);
+    expose_length(sent);
     let mut inflight = s.inflight;
     let mut n = s.remote_acked;
     while n < s.seq {

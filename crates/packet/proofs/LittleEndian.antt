@@ -10,7 +10,7 @@ use lib.Dec.{lit<}
 use lib.ListN.{length, getD, take, drop, length-take, length-drop}
 use lib.Seq.{drop-cons, getD-drop}
 use Rattle.packet.specs.LittleEndian.{le, leBytes, word}
-use Rattle.packet.specs.RoundTrip.{Bytes}
+use Rattle.packet.specs.RoundTrip.{AllBytes}
 
 -- the value of a number's bytes is the number
 pub le-leBytes : (k n : ℕ) → n < 256 ^ k → le (leBytes k n) ≡ n
@@ -18,7 +18,7 @@ le-leBytes zero n h = omega arith
 le-leBytes (suc k) n h = omega (arith, le-leBytes k (n / 256) (omega (arith, pow-suc 256 k)))
 
 -- the bytes of a list's value are the list
-pub leBytes-le : (s : List ℕ) → Bytes s → leBytes (length s) (le s) ≡ s
+pub leBytes-le : (s : List ℕ) → AllBytes s → leBytes (length s) (le s) ≡ s
 leBytes-le [] h = refl
 leBytes-le (b ∷ bs) h =
     let byte : b < 256 = h zero in
@@ -42,14 +42,14 @@ four s at h =
     (next s (at + 2) 1 (omega arith)
     ∙ ap (λ (l : List ℕ). getD s (at + 2) 0 ∷ l) (simp add-assoc (next s (at + 3) 0 (omega arith))))))
 
-take-bytes : (n : ℕ) (s : List ℕ) → Bytes s → Bytes (take n s)
+take-bytes : (n : ℕ) (s : List ℕ) → AllBytes s → AllBytes (take n s)
 take-bytes zero s b i = lit< tt
 take-bytes (suc n) [] b i = lit< tt
 take-bytes (suc n) (x ∷ xs) b zero = b zero
 take-bytes (suc n) (x ∷ xs) b (suc i) = take-bytes n xs (λ j. b (suc j)) i
 
 -- the bytes of the number at a place are the four elements there
-pub word-bytes : (s : List ℕ) (at : ℕ) → Bytes s → at + 4 ≤ length s → leBytes 4 (word s at) ≡ take 4 (drop at s)
+pub word-bytes : (s : List ℕ) (at : ℕ) → AllBytes s → at + 4 ≤ length s → leBytes 4 (word s at) ≡ take 4 (drop at s)
 word-bytes s at b h =
     let e : length (take 4 (drop at s)) ≡ 4 = simp (length-take, length-drop) (omega arith) in
     rw e at (leBytes-le (take 4 (drop at s)) (take-bytes 4 (drop at s) (λ i. rw getD-drop (b (at + i)))))

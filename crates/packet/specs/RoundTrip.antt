@@ -17,8 +17,8 @@ pub record HeaderFits (h : Header) : Type 0 where
   pub ack : h .ack < 2 ^ 32
 
 -- each element is a byte, as in every slice of the code; past the end `getD` gives 0
-abbrev pub Bytes : List ℕ → Type 0
-Bytes s = (i : ℕ) → getD s i 0 < 256
+abbrev pub AllBytes : List ℕ → Type 0
+AllBytes s = (i : ℕ) → getD s i 0 < 256
 
 -- Decoding an encoded header gives it back.
 abbrev pub DecodeEncode : Type 0
@@ -27,5 +27,5 @@ DecodeEncode = (h : Header) (buf : List ℕ) → HeaderFits h → 20 ≤ length 
 -- Encoding a decoded header gives its first 20 bytes back.
 abbrev pub EncodeDecode : Type 0
 EncodeDecode =
-    (h : Header) (s buf : List ℕ) → Bytes s → decoded s ≡ Packet h → 20 ≤ length buf
+    (h : Header) (s buf : List ℕ) → AllBytes s → decoded s ≡ Packet h → 20 ≤ length buf
     → encodedIn h buf ≡ take 20 s ++ drop 20 buf

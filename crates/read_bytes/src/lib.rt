@@ -15,7 +15,7 @@ ghost use Rattle.read_bytes.specs.Reading.{
 };
 use records::Held;
 use records::Receiver;
-use records::word_count;
+use records::expose_length;
 
 // What a read did.
 pub struct Read {
@@ -61,7 +61,7 @@ fn read_front(held: &mut [u64; 32], incoming: &[u8], buf: &mut [u8], at: usize, 
         offset: p.offset + room,
     };
     put_next(buf, at, incoming, p, room);
-    word_count(held);
+    expose_length(held);
     records::put_held(held, q);
 }
 

@@ -12,6 +12,7 @@ pub use records_words::Held;
 pub use records_words::Sent;
 pub use records_words::clear_held;
 pub use records_words::clear_sent;
+pub use records_words::expose_length;
 pub use records_words::get_entry;
 pub use records_words::get_held;
 pub use records_words::get_sent;

@@ -1,6 +1,6 @@
 // Opening a stream (UdxStream::connect).
 ghost use mathlib.Core.Path.{_≡_};
-ghost use Rattle.records.specs.Open.{Opens, freshTiming, freshStream, freshTotals, refusedOpen};
+ghost use Rattle.records.specs.Open.{Opens, freshSender, freshTiming, freshStream, freshTotals, refusedOpen};
 use crate::Clocks;
 use crate::Deadline;
 use crate::Ending;
@@ -44,6 +44,18 @@ fn fresh_totals() -> Totals
     }
 }
 
+fn fresh_sender() -> Sender
+    ensures { λ r. ⌜ r ≡ freshSender ⌝ }
+{
+    Sender {
+        seq: 0,
+        remote_acked: 0,
+        largest_ack: 0,
+        inflight: 0,
+        cwnd: CWND_FRESH,
+    }
+}
+
 fn fresh_timing(clock: Nanos) -> Timing
     ensures { λ r. ⌜ r ≡ freshTiming (clock .0) ⌝ }
 {
@@ -63,13 +75,7 @@ fn fresh_stream(local: u32, remote: u32, segments: u8, clock: Nanos) -> Stream
         remote,
         segments,
     };
-    let sender = Sender {
-        seq: 0,
-        remote_acked: 0,
-        largest_ack: 0,
-        inflight: 0,
-        cwnd: CWND_FRESH,
-    };
+    let sender = fresh_sender();
     let receiver = Receiver {
         ack: 0,
         read_cursor: 0,

@@ -29,6 +29,7 @@ ghost use Rattle.records_words.specs.Words.{
   entryWord,
   samePacket,
 };
+pub use lengths::expose_length;
 pub use lengths::least;
 pub use lengths::word_count;
 use rtt::Nanos;

@@ -19,7 +19,7 @@ use records::Sender;
 
 // What the pass over the entries finds: whether each keeps its rules, whether the packets' numbers are distinct and from remote acked to
 // below seq, and how many state packets there are.
-struct Passed {
+struct QueuePass {
     good: bool,
     fresh: bool,
     states: u32,
@@ -61,7 +61,7 @@ fn entries(
     seq: u32,
     queue: &[u64; 128],
     sent: &[u64; 64],
-) -> Passed
+) -> QueuePass
     requires { ⌜ (end ≤ 128) × (end ≤ length (now queue)) × (seq ≤ acked + 32) ⌝ }
     ensures { λ r. ⌜ EntriesPassed acked seq (now (sent .entry)) (drop first (take end (now (queue .entry)))) (r .good)
         (r .fresh) (r .states) ⌝ }
@@ -90,7 +90,7 @@ fn entries(
             }
         }
     }
-    Passed {
+    QueuePass {
         good,
         fresh,
         states,

@@ -7,7 +7,18 @@ ghost use lib.Dec.{ltb};
 ghost use lib.ListN.{length, getD};
 ghost use Rattle.model.specs.Lists.{Bytes};
 ghost use Rattle.model.specs.Driving.{datagramsOf};
-ghost use Rattle.session_kept.specs.Kept.{countOf, slotOf, slotBytes, keptOf, lastKept, fitted, segmentOf, NextPiece, PutInSlot, OneMoreKept};
+ghost use Rattle.session_kept.specs.Kept.{
+  countOf,
+  slotOf,
+  slotBytes,
+  keptOf,
+  lastKept,
+  fitted,
+  segmentOf,
+  NextPiece,
+  PutInSlot,
+  OneMoreKept,
+};
 use records::least;
 
 // Bytes in their store, 32 slots.

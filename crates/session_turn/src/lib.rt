@@ -8,6 +8,7 @@ pub use running::Ends;
 pub use running::Turn;
 pub use running::run_one;
 pub use running::stop;
+pub use running::turned;
 pub use session_commands::Acted;
 pub use session_commands::SCRATCH;
 pub use session_commands::take_and_keep;

@@ -15,6 +15,7 @@ use constants::INCOMING_STORE;
 use constants::OUTGOING_STORE;
 use picks::both;
 use session_commands::SCRATCH;
+use session_commands::act;
 use session_ends::SessionEnd;
 use session_kept::KEPT_STORE;
 use session_kept::Kept;
@@ -119,6 +120,16 @@ pub fn stop(ends: Ends, size: usize, at: usize, line: &mut [u8; LINE]) -> Turn
     }
 }
 
+pub fn turned(zero: SessionEnd, one: SessionEnd, next: usize, len: usize) -> Turn
+    ensures { λ r. ⌜ r ≡ record { ends = record { zero = zero; one = one }; next = next; len = len } ⌝ }
+{
+    Turn {
+        ends: Ends { zero, one },
+        next,
+        len,
+    }
+}
+
 // Runs the command at `at`. Past the script's end nothing happens and the line is empty.
 pub fn run_one(
     ends: Ends,
@@ -154,19 +165,14 @@ pub fn run_one(
 {
     let size = script.len();
     if size <= at {
-        return Turn {
-            ends,
-            next: size,
-            len: 0,
-        };
+        return turned(ends.zero, ends.one, size, 0);
     }
     let p = command_at(script, at);
     let command = p.command;
-    let next = p.next;
     let zero = ends.zero;
     let one = ends.one;
     if is_for(0, command, one.kept) {
-        let a = session_commands::act(
+        let a = act(
             zero,
             one.kept,
             command,
@@ -178,15 +184,10 @@ pub fn run_one(
             scratch,
             line,
         );
-        let zero = a.end;
-        return Turn {
-            ends: Ends { zero, one },
-            next,
-            len: a.len,
-        };
+        return turned(a.end, one, p.next, a.len);
     }
     if is_for(1, command, zero.kept) {
-        let a = session_commands::act(
+        let a = act(
             one,
             zero.kept,
             command,
@@ -198,12 +199,7 @@ pub fn run_one(
             scratch,
             line,
         );
-        let one = a.end;
-        return Turn {
-            ends: Ends { zero, one },
-            next,
-            len: a.len,
-        };
+        return turned(zero, a.end, p.next, a.len);
     }
     stop(ends, size, at, line)
 }

@@ -8,8 +8,8 @@ ghost use Rattle.take_batch.specs.Batch.{entrySize, Batched, Heads};
 use constants::UDX_HEADER_SIZE;
 use records::Entry;
 use records::Queue;
+use records::expose_length;
 use records::least;
-use records::word_count;
 
 // The size of an entry's datagram; a state packet is a bare header.
 fn entry_size(x: Entry) -> u32
@@ -36,7 +36,7 @@ pub fn batch(q: Queue, segments: u8, queue: &[u64; 128]) -> u32
     requires { ⌜ (q .left ≤ q .count) × (q .count ≤ 128) × (1 ≤ q .left) ⌝ }
     ensures { λ r. ⌜ Batched q segments (now (queue .entry)) r ⌝ }
 {
-    word_count(queue);
+    expose_length(queue);
     let most = least(segments as usize, q.left as usize) as u32;
     let size = entry_size(left_entry(q, queue, 0));
     let mut k: u32 = 0;
@@ -54,6 +54,6 @@ pub fn head_length(q: Queue, queue: &[u64; 128]) -> u32
     requires { ⌜ (q .left ≤ q .count) × (q .count ≤ 128) × (1 ≤ q .left) ⌝ }
     ensures { λ r. ⌜ Heads q (now (queue .entry)) r ⌝ }
 {
-    word_count(queue);
+    expose_length(queue);
     entry_size(left_entry(q, queue, 0))
 }

@@ -4,11 +4,22 @@ ghost use mathlib.Core.Path.{_≡_};
 ghost use Prim.Native.Nat.{_≤_};
 ghost use lib.ListN.{length};
 ghost use Rattle.records.specs.Seen.{QueueFormed};
-ghost use Rattle.take_next.specs.Take.{AllTransmitBounds, TakeRules, CanTake, Takes, TakesQueue, segmentSize, Sendable, HandsOut, Finds, ShowsNext};
+ghost use Rattle.take_next.specs.Take.{
+  AllTransmitBounds,
+  TakeRules,
+  CanTake,
+  Takes,
+  TakesQueue,
+  segmentSize,
+  Sendable,
+  HandsOut,
+  Finds,
+  ShowsNext,
+};
 use constants::UDX_HEADER_SIZE;
 use records::Queue;
 use records::Sender;
-use records::word_count;
+use records::expose_length;
 use rtt::Nanos;
 use take_batch::batch;
 use take_batch::head_length;
@@ -36,8 +47,8 @@ fn to_transmit(
     ensures { λ r. ⌜ Takes q s k (drive .0) (now (sent .entry)) (now (queue .entry)) (now (outgoing .entry))
         (now (headers .entry)) (now (buf .entry)) r (now (sent .exit)) (now (buf .exit)) ⌝ }
 {
-    word_count(queue);
-    word_count(sent);
+    expose_length(queue);
+    expose_length(sent);
     let mut p = Progress {
         at: 0,
         place: q.gone,
@@ -134,7 +145,7 @@ fn next_entry(q: Queue, s: Sender, sent: &[u64; 64], queue: &[u64; 128]) -> Next
     requires { ⌜ QueueFormed q (now queue) × AllTransmitBounds s (now sent) 7 ⌝ }
     ensures { λ r. ⌜ Finds q s (now (sent .entry)) (now (queue .entry)) r ⌝ }
 {
-    word_count(queue);
+    expose_length(queue);
     let mut n: u32 = 0;
     while n < q.left {
         let x = left_entry(q, queue, n);

@@ -96,21 +96,33 @@ pub extern "C" fn udx_layout_totals(s: FlatStream, t: FlatTotals) -> Numbers
     }
 }
 
-fn counted_stream() -> FlatStream
-    ensures { λ r. ⌜ streamFields r ≡ countFrom 24 1 ⌝ }
+fn counted_ids() -> FlatIds
+    ensures { λ r. ⌜ r ≡ record { local = 1; remote = 2; segments = 3 } ⌝ }
 {
-    let ids = FlatIds {
+    FlatIds {
         local: 1,
         remote: 2,
         segments: 3,
-    };
-    let sender = FlatSender {
+    }
+}
+
+fn counted_sender() -> FlatSender
+    ensures { λ r. ⌜ r ≡ record { seq = 4; «remote_acked» = 5; «largest_ack» = 6; inflight = 7; cwnd = 8 } ⌝ }
+{
+    FlatSender {
         seq: 4,
         remote_acked: 5,
         largest_ack: 6,
         inflight: 7,
         cwnd: 8,
-    };
+    }
+}
+
+fn counted_stream() -> FlatStream
+    ensures { λ r. ⌜ streamFields r ≡ countFrom 24 1 ⌝ }
+{
+    let ids = counted_ids();
+    let sender = counted_sender();
     let receiver = FlatReceiver {
         ack: 9,
         read_cursor: 10,

@@ -10,7 +10,7 @@ use records::Queue;
 use records::Sender;
 use records::Stream;
 use records::Totals;
-use records::word_count;
+use records::expose_length;
 use rules_lent::broken;
 use take_batch::left_entry;
 use take_entry::there;
@@ -62,7 +62,7 @@ fn next_part(q: Queue, s: Sender, sent: &[u64; 64], queue: &[u64; 128]) -> Part
     requires { ⌜ QueueFormed q (now queue) ⌝ }
     ensures { λ r. ⌜ FindsPart q s (now (sent .entry)) (now (queue .entry)) r ⌝ }
 {
-    word_count(queue);
+    expose_length(queue);
     let mut n: u32 = 0;
     while n < q.left {
         let x = left_entry(q, queue, n);

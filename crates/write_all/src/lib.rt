@@ -2,8 +2,8 @@
 ghost use lib.ListN.{length};
 ghost use Rattle.write_all.specs.Write.{Ready, Writes};
 use constants::UDX_MAX_DATA_SIZE;
+use records::expose_length;
 use records::least;
-use records::word_count;
 pub use write_piece::Outbox;
 use write_piece::goes;
 use write_piece::send_data_packet;
@@ -28,8 +28,8 @@ pub fn write_pieces(
     ensures { λ r. ⌜ Writes o remote ack (now (bytes .entry)) (now (sent .entry)) (now (queue .entry))
         (now (outgoing .entry)) r (now (sent .exit)) (now (queue .exit)) (now (outgoing .exit)) ⌝ }
 {
-    word_count(sent);
-    word_count(queue);
+    expose_length(sent);
+    expose_length(queue);
     let mut out = o;
     let mut at: usize = 0;
     while at < bytes.len() {

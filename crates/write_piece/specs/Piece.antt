@@ -98,6 +98,6 @@ withOutbox o s =
     }
 
 -- the lent words and bytes, with those that a write changes replaced
-abbrev pub withSent : (sent queue outgoing : List ℕ) → Lent → Lent
-withSent sent queue outgoing l =
+abbrev pub withOutboxLent : (sent queue outgoing : List ℕ) → Lent → Lent
+withOutboxLent sent queue outgoing l =
     record { sent = sent; held = l .held; queue = queue; outgoing = outgoing; incoming = l .incoming; headers = l .headers }

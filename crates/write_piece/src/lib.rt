@@ -6,7 +6,18 @@ ghost use lib.Dec.{leb};
 ghost use lib.ListN.{length};
 ghost use Rattle.packet.specs.Header.{headerBytes};
 ghost use Rattle.records.specs.Put.{put};
-ghost use Rattle.write_piece.specs.Piece.{headerOf, newPacket, newEntry, sentSender, pushedQueue, countedTotals, mayGo, sentPut, Room, SendsPiece};
+ghost use Rattle.write_piece.specs.Piece.{
+  headerOf,
+  newPacket,
+  newEntry,
+  sentSender,
+  pushedQueue,
+  countedTotals,
+  mayGo,
+  sentPut,
+  Room,
+  SendsPiece,
+};
 use constants::RECV_WIN;
 use constants::SEQ_END;
 use constants::STORE_SLOTS;

@@ -9,5 +9,4 @@ unfolding freshStream
 returns c = cc
 
 pub fresh-stream-spec : {M : Type 1} → statement M
-fresh-stream-spec = tie.close (tie.spec
-    (λ c κs. search needs) returns)
+fresh-stream-spec = tie.close (tie.spec (λ c κs. search needs) (λ c κs. search needs) returns)

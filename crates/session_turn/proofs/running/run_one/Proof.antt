@@ -9,7 +9,8 @@ use Rattle.session_turn.proofs.running.run_one.Tie as tie
 
 returns : tie.Need-returns
 returns c =
-    (record { on = λ inside. absurd (let t = c .if1 .taken in omega arith); within = omega arith; fits = omega arith }, λ inside zero one. absurd (let t = c .if1 .taken in omega arith))
+    rw (c .turned .ensures)
+    (record { on = λ inside. absurd (let t = c .before .if1 .taken in omega arith); within = omega arith; fits = omega arith }, λ inside zero one. absurd (let t = c .before .if1 .taken in omega arith))
 
 returns-2 : tie.Need-returns-2
 returns-2 c =
@@ -17,7 +18,7 @@ returns-2 c =
     let p = k .ensures in
     let g = c .before .before .before .before .before .before .before .before .before .before .before .before .before .before .before .before .args in
     let theirs = keptOf (g .ends .one .kept) (g .kept-1 .now) in
-    let a = c .before .act .ensures in (
+    let a = c .before .act .ensures in rw (c .turned2 .ensures) (
       record { on = λ _. p .on; within = p .within; fits = a .0 },
       λ inside zero one.
           let is = sym (c .before .before .before .before .before .before .before .before .before .before .is-for .ensures _) ∙ c .before .before .before .before .before .before .before .before .before .if2 .taken in
@@ -30,7 +31,7 @@ returns-3 c =
     let p = k .ensures in
     let g = c .before .before .before .before .before .before .before .before .before .before .before .before .before .before .before .before .before .before .args in
     let theirs = keptOf (g .ends .zero .kept) (g .kept-0 .now) in
-    let a = c .before .act2 .ensures in (
+    let a = c .before .act2 .ensures in rw (c .turned3 .ensures) (
       record { on = λ _. p .on; within = p .within; fits = a .0 },
       λ inside zero one.
           let no-zero = sym (c .before .before .before .before .before .before .before .before .before .before .before .before .is-for .ensures _) ∙ c .before .before .before .before .before .before .before .before .before .before .before .if2 .left in
@@ -54,11 +55,14 @@ pub run-one-spec : {M : Type 1} → statement M
 run-one-spec =
     tie.close
     (tie.spec
+    (λ c κs. search needs)
     returns
     (λ c κs. search needs)
     (λ c κs. search needs)
     (λ c κs. search needs)
+    (λ c κs. search needs)
     returns-2
+    (λ c κs. search needs)
     (λ c κs. search needs)
     (λ c κs. search needs)
     returns-3
