@@ -1,5 +1,5 @@
 #!/usr/bin/env python3
-"""Packs scripts and their answers for the program `replay`: python3 tests/cases/pack_scripts.py OUT KIND SCRIPT ANSWER [KIND SCRIPT ANSWER ..]
+"""Packs scripts and their answers for the program `drill_replay`: python3 tests/cases/pack_scripts.py OUT KIND SCRIPT ANSWER [KIND SCRIPT ANSWER ..]
 KIND is `session` or `drill`. Each is one byte (0 or 1), the two lengths (4 bytes each, little-endian), the script and the answer."""
 import pathlib
 import sys

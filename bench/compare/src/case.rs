@@ -48,7 +48,7 @@ impl Engine {
             name,
             check: check::<E>,
             path: path::<E>,
-            calls: udx_lent::<E>,
+            calls: calls::<E>,
         }
     }
 }

@@ -60,7 +60,7 @@ pub fn compare(plan: &Plan) -> Result<bool, String> {
     let Plan { kind, program, .. } = *plan;
     let named: Vec<_> = named::all().into_iter().filter(|one| one.kind == kind && !one.slow).collect();
     for one in &named {
-        if port(program, &one.bytes)? != session_script::run(kind, &one.bytes, ORIGINAL) {
+        if port(program, &one.bytes)? != script::run(kind, &one.bytes, ORIGINAL) {
             println!("{}: named script '{}' differs", kind.name(), one.name);
             report(kind, program, &one.bytes)?;
             return Ok(false);
@@ -145,7 +145,7 @@ pub fn recorded(list: &[Recorded]) -> Result<bool, String> {
         return Err("no recorded script".into());
     }
     for (index, (kind, bytes, lines)) in list.iter().enumerate() {
-        if session_script::run(*kind, bytes, ORIGINAL) != *lines {
+        if script::run(*kind, bytes, ORIGINAL) != *lines {
             println!("{}: recorded script {index} is not what the original answers", kind.name());
             return Ok(false);
         }
@@ -174,12 +174,12 @@ pub fn replay(list: &[Recorded], kind: Kind, program: &Path) -> Result<bool, Str
 
 /// Shortens a script that differs and prints it, command by command, up to the first line that differs.
 fn report(kind: Kind, program: &Path, bytes: &[u8]) -> Result<(), String> {
-    let bytes = shrink(kind, bytes, &mut |bytes| Ok(port(program, bytes)? != session_script::run(kind, bytes, ORIGINAL)))?;
-    let (ours, theirs) = (session_script::run(kind, &bytes, ORIGINAL), port(program, &bytes)?);
+    let bytes = shrink(kind, bytes, &mut |bytes| Ok(port(program, bytes)? != script::run(kind, bytes, ORIGINAL)))?;
+    let (ours, theirs) = (script::run(kind, &bytes, ORIGINAL), port(program, &bytes)?);
     let text = |lines: &[u8]| String::from_utf8_lossy(lines).into_owned();
     let (ours, theirs) = (text(&ours), text(&theirs));
     let (mut ours, mut theirs) = (ours.lines(), theirs.lines());
-    let offsets = session_script::commands(kind, &bytes);
+    let offsets = script::commands(kind, &bytes);
     let hex: String = bytes.iter().map(|byte| format!("{byte:02x}")).collect();
     println!("shortened, in hexadecimal: {hex}");
     for part in offsets.windows(2).map(|pair| &bytes[pair[0]..pair[1]]) {
@@ -197,7 +197,7 @@ fn report(kind: Kind, program: &Path, bytes: &[u8]) -> Result<(), String> {
 
 /// A shorter script that still differs: commands dropped, in ever smaller runs, then operands made 0.
 pub fn shrink(kind: Kind, bytes: &[u8], differs: &mut dyn FnMut(&[u8]) -> Result<bool, String>) -> Result<Vec<u8>, String> {
-    let offsets = session_script::commands(kind, bytes);
+    let offsets = script::commands(kind, bytes);
     let mut parts: Vec<Vec<u8>> = offsets.windows(2).map(|pair| bytes[pair[0]..pair[1]].to_vec()).collect();
     let mut tries = 0;
     let mut size = parts.len().div_ceil(2).max(1);
@@ -229,7 +229,7 @@ pub fn shrink(kind: Kind, bytes: &[u8], differs: &mut dyn FnMut(&[u8]) -> Result
             }
             let mut other = parts.clone();
             other[index][at] = 0;
-            if session_script::walks_far(&other[index]) {
+            if script::walks_far(&other[index]) {
                 continue;
             }
             tries += 1;

@@ -9,7 +9,7 @@ use std::panic::{AssertUnwindSafe, catch_unwind};
 
 /// A panic of the wrong version counts as noticed.
 fn differs((kind, bytes, lines): &Recorded, engine: Engine) -> bool {
-    catch_unwind(AssertUnwindSafe(|| session_script::run(*kind, bytes, engine))).map_or(true, |ours| ours != *lines)
+    catch_unwind(AssertUnwindSafe(|| script::run(*kind, bytes, engine))).map_or(true, |ours| ours != *lines)
 }
 
 /// Prints for each mutation how many random scripts it took, from the seed on, and how many named and recorded ones notice it.
@@ -24,7 +24,7 @@ pub fn hunt(seed: u64, count: u64, recorded: &[Recorded]) -> bool {
     let named: Vec<Recorded> = named::all()
         .into_iter()
         .filter(|one| !one.slow)
-        .map(|one| (one.kind, session_script::run(one.kind, &one.bytes, ORIGINAL), one.bytes))
+        .map(|one| (one.kind, script::run(one.kind, &one.bytes, ORIGINAL), one.bytes))
         .map(|(kind, lines, bytes)| (kind, bytes, lines))
         .filter(|one| !walks_far(one))
         .collect();

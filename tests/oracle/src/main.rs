@@ -42,7 +42,7 @@ fn main() -> ExitCode {
 fn command(words: &[&str]) -> Result<bool, String> {
     match words {
         ["run", kind] => {
-            print(&session_script::run(kind_of(kind)?, &input()?, ORIGINAL))?;
+            print(&script::run(kind_of(kind)?, &input()?, ORIGINAL))?;
             Ok(true)
         }
         ["generate", kind, seed, count, folder] => {
@@ -87,7 +87,7 @@ fn command(words: &[&str]) -> Result<bool, String> {
                 let hex: String = one.bytes.iter().map(|byte| format!("{byte:02x}")).collect();
                 let lines = match one.slow {
                     true => b"(takes a minute: run it by itself)\n".to_vec(),
-                    false => session_script::run(one.kind, &one.bytes, ORIGINAL),
+                    false => script::run(one.kind, &one.bytes, ORIGINAL),
                 };
                 print(format!("# {} ({})\n{hex}\n{}\n", one.name, one.kind.name(), String::from_utf8_lossy(&lines)).as_bytes())?;
             }
@@ -105,7 +105,7 @@ fn command(words: &[&str]) -> Result<bool, String> {
         ["mutants", seed, count] => mutants(number(seed)?, number(count)?, &[]),
         ["mutants", seed, count, file] => mutants(number(seed)?, number(count)?, &recorded(file)?),
         ["mutant", index, kind] => {
-            print(&session_script::run(kind_of(kind)?, &input()?, mutant(number(index)?)?))?;
+            print(&script::run(kind_of(kind)?, &input()?, mutant(number(index)?)?))?;
             Ok(true)
         }
         [] => Err(USAGE.into()),
@@ -139,7 +139,7 @@ fn mutant(_: u64) -> Result<Engine, String> {
 /// As much of standard input as a program reads.
 fn input() -> Result<Vec<u8>, String> {
     let mut bytes = Vec::new();
-    std::io::stdin().take(session_script::MAX_SCRIPT as u64).read_to_end(&mut bytes).map_err(|error| error.to_string())?;
+    std::io::stdin().take(script::MAX_SCRIPT as u64).read_to_end(&mut bytes).map_err(|error| error.to_string())?;
     Ok(bytes)
 }
 

@@ -45,7 +45,7 @@ impl Record {
 pub fn file() -> Vec<u8> {
     let mut list: Vec<Record> = named::all()
         .into_iter()
-        .map(|one| Record { kind: one.kind, lines: session_script::run(one.kind, &one.bytes, ORIGINAL), bytes: one.bytes })
+        .map(|one| Record { kind: one.kind, lines: script::run(one.kind, &one.bytes, ORIGINAL), bytes: one.bytes })
         .filter(Record::fits)
         .collect();
     let named = list.len();
@@ -98,7 +98,7 @@ pub type Recorded = (Kind, Vec<u8>, Vec<u8>);
 
 /// Whether the original would walk over billions of numbers in it.
 pub fn walks_far((kind, bytes, _): &Recorded) -> bool {
-    session_script::commands(*kind, bytes).windows(2).any(|pair| session_script::walks_far(&bytes[pair[0]..pair[1]]))
+    script::commands(*kind, bytes).windows(2).any(|pair| script::walks_far(&bytes[pair[0]..pair[1]]))
 }
 
 /// The scripts of a file.
