@@ -1,4 +1,6 @@
 // The calls that bench/ times, as C functions on plain numbers. `numbers` has the order of `stream` and `totals` below.
+#![tactic(auto)]
+
 use error::{Outcome, UdxError};
 use records::{
     Clocks, Deadline, Ending, Ids, Queue, Receiver, Sender, Stream, StreamState, Timing, Totals,

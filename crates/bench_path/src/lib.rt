@@ -1,5 +1,7 @@
 // The path of a packet between two ends, as C functions to be timed: write, drive, take, deliver and read. Each function makes all the
 // calls of its kind in a round, so that little but the calls is timed. `numbers` has the order of bench_calls.
+#![tactic(auto)]
+
 use bench_calls::{stream, totals};
 use records::{Queue, Receiver, Sender, Timing};
 use rtt::Nanos;

@@ -1,4 +1,6 @@
 // Closing: how a stream ends (StreamState, terminate), and the state packets that tell the other end.
+#![tactic(auto)]
+
 ghost use Rattle.std.specs.Prelude.{◌≡◌, ◌<◌, length};
 ghost use Rattle.model.specs.Sending.{state_type, close_local, close_remote, failed};
 ghost use Rattle.model.specs.Receiving.{remote_ended};
@@ -20,7 +22,7 @@ use records::{Ending, Entry, Queue, StreamState, Totals};
 use write_piece::create_header;
 
 // What a queued state packet changes besides the words and the bytes.
-#[derive(Drop)]
+#[derive(Clone, Copy)]
 pub struct Queued {
     pub queue: Queue,
     pub totals: Totals,

@@ -1,4 +1,5 @@
 // The engine's constants, each with its source. "01" is the specification; docs/TRACE.md lists its sentences.
+#![tactic(auto)]
 
 // From the Rust's src/constants.rs, with its names.
 

@@ -1,4 +1,6 @@
 // Acknowledged packets leave the outgoing store: those of SACK blocks when they are delivered, the others when a drive settles them.
+#![tactic(auto)]
+
 ghost use Rattle.std.specs.Prelude.{◌≡◌, ◌+◌, ◌≤◌, ◌<◌, ◌^◌};
 ghost use Rattle.rtt.specs.Estimate.{InRange};
 ghost use Rattle.deliver_acks.specs.Acked.{left_sender, measured_rtt, acked_totals, Measures, Timed, InWindow, AcksOne};
@@ -10,7 +12,7 @@ use records::{Sender, Sent, Totals};
 use rtt::{Nanos, Rtt};
 
 // What acking a packet changes, besides the lent words.
-#[derive(Drop)]
+#[derive(Clone, Copy)]
 pub struct Acks {
     pub sender: Sender,
     pub rtt: Rtt,

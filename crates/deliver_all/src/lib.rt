@@ -1,4 +1,6 @@
 // A delivered datagram that no refusal stops: count, SACK blocks, END, DATA, window (handle_incoming).
+#![tactic(auto)]
+
 ghost use Rattle.std.specs.Prelude.{length};
 ghost use Rattle.close_state.specs.State.{Pushable};
 ghost use Rattle.deliver_parts.specs.Steps.{Measured};

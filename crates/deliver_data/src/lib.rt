@@ -1,5 +1,7 @@
 // A datagram's DATA: it is held under its number until it is read, and ack moves past all that is held in order. The receiver's numbers
 // are passed by value; the held packets are words of a lent array, their bytes are in the lent incoming store.
+#![tactic(auto)]
+
 ghost use Rattle.std.specs.Prelude.{◌≡◌, ◌+◌, ◌≤◌, ◌<◌, max};
 ghost use Rattle.records.specs.Laid.{LaidReceiver};
 ghost use Rattle.deliver_data.specs.Absorbing.{Accepted, Cleared, Inserted, Advanced, Absorbed};

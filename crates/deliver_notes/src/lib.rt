@@ -1,4 +1,6 @@
 // What every delivery updates, whatever its datagram holds: counts, clock, the largest ack and the window.
+#![tactic(auto)]
+
 ghost use Rattle.std.specs.Prelude.{◌≡◌, if◌then◌else◌, nat_lt};
 ghost use Rattle.rtt.specs.Window.{grown};
 ghost use Rattle.deliver_notes.specs.Numbers.{counted_received, counted_data, clocked_stream, acked_sender};

@@ -1,4 +1,6 @@
 // What a datagram's type bits do, one part each: SACK blocks, END, DATA (handle_incoming).
+#![tactic(auto)]
+
 ghost use Rattle.std.specs.Prelude.{length};
 ghost use Rattle.close_state.specs.State.{Pushable};
 ghost use Rattle.deliver_parts.specs.Steps.{Measured, Sacked, Ended, TakesData, TookData};
@@ -11,7 +13,7 @@ use records::{Stream, Timing, Totals};
 use rtt::Nanos;
 
 // The stream and totals after one part of a delivery.
-#[derive(Drop)]
+#[derive(Clone, Copy)]
 pub struct Delivered {
     pub stream: Stream,
     pub totals: Totals,

@@ -1,4 +1,6 @@
 // Runs the drill script on standard input on two ends and prints a line for each command (docs/DRILL.md).
+#![tactic(auto)]
+
 use constants::{HEADER_STORE, INCOMING_STORE, OUTGOING_STORE};
 use drill_turn::{SPARE_HEADERS, SPARE_INCOMING, SPARE_OUTGOING};
 use libc::{STDIN_FILENO, STDOUT_FILENO};

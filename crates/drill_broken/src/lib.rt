@@ -1,5 +1,7 @@
 // One call on a copy of an end with one thing broken. The stores are copied into spare ones, a byte longer than a store, so that a store of
 // the wrong length can be lent.
+#![tactic(auto)]
+
 mod breaking;
 
 ghost use Rattle.std.specs.Prelude.{◌+◌, ◌≤◌, length};

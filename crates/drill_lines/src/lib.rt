@@ -1,11 +1,13 @@
 // Formats the drill's output lines, each at the start of a buffer.
+#![tactic(auto)]
+
 ghost use Rattle.std.specs.Prelude.{◌+◌, ◌*◌, ◌≤◌, length};
 
 use error::Outcome;
 use packet::Header;
 use session_text::LINE;
 
-#[derive(Drop)]
+#[derive(Clone, Copy)]
 pub enum Name {
     Raw,
     Base,

@@ -8,7 +8,7 @@ use session_kept::KEPT_STORE;
 use session_text::LINE;
 use session_turn::{Ends, SCRATCH, Turn};
 
-#[derive(Drop)]
+#[derive(Clone, Copy)]
 pub struct Compared {
     pub same: bool,
     // How many lines are the same before the first that differs.

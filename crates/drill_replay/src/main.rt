@@ -1,5 +1,7 @@
 // Runs every script of the file scripts.bin from fresh ends and compares each line with the recorded answer. For each script the file has
 // its kind (1 byte: 0 session, 1 drill), its length (4, little-endian), its answer's length (4), the script and the answer.
+#![tactic(auto)]
+
 mod comparing;
 mod reading;
 mod reporting;

@@ -1,7 +1,7 @@
 // Reads the next script of the file.
 
 // The script's kind, its length and its answer's length; or why there is none.
-#[derive(Drop)]
+#[derive(Clone, Copy)]
 pub enum Next {
     Script {
         kind: u8,

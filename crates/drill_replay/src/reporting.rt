@@ -2,7 +2,7 @@
 use crate::comparing::{Compared, front};
 use libc::STDOUT_FILENO;
 
-#[derive(Drop)]
+#[derive(Clone, Copy)]
 pub struct Tally {
     pub same: u64,
     pub differ: u64,

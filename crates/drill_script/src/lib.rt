@@ -1,4 +1,6 @@
 // Parses the drill's commands.
+#![tactic(auto)]
+
 ghost use Rattle.std.specs.Prelude.{◌<◌, ◌≤◌, length};
 
 use packet::Header;
@@ -6,7 +8,7 @@ use rtt::Nanos;
 use session_script::{byte_at, u16_at, u32_at, u64_at};
 
 // Delivers these bytes, `length` of them, which follow the command.
-#[derive(Drop)]
+#[derive(Clone, Copy)]
 pub struct Raw {
     pub end: u8,
     pub clock: Nanos,
@@ -14,7 +16,7 @@ pub struct Raw {
 }
 
 // Gives an empty end these numbers.
-#[derive(Drop)]
+#[derive(Clone, Copy)]
 pub struct Base {
     pub end: u8,
     pub seq: u32,
@@ -23,7 +25,7 @@ pub struct Base {
 }
 
 // Opens an end anew.
-#[derive(Drop)]
+#[derive(Clone, Copy)]
 pub struct Open {
     pub end: u8,
     pub local: u32,
@@ -33,21 +35,21 @@ pub struct Open {
 }
 
 // Takes into a buffer of `length` bytes.
-#[derive(Drop)]
+#[derive(Clone, Copy)]
 pub struct Room {
     pub end: u8,
     pub length: u16,
 }
 
 // Encodes a header into a buffer of `length` bytes.
-#[derive(Drop)]
+#[derive(Clone, Copy)]
 pub struct Encode {
     pub length: u8,
     pub header: Header,
 }
 
 // Makes a call on a copy of an end with one thing broken.
-#[derive(Drop)]
+#[derive(Clone, Copy)]
 pub struct Spoil {
     pub end: u8,
     pub which: u8,
@@ -55,7 +57,7 @@ pub struct Spoil {
     pub clock: Nanos,
 }
 
-#[derive(Drop)]
+#[derive(Clone, Copy)]
 pub enum Drill {
     Raw(Raw),
     Base(Base),
@@ -204,7 +206,7 @@ fn both(a: bool, b: bool) -> bool {
 
 // A command and how many bytes of the script it takes: all that are left if it ends the run, and 1 if it is a session command, which the
 // session parses.
-#[derive(Drop)]
+#[derive(Clone, Copy)]
 pub struct Parsed {
     pub drill: Drill,
     pub size: usize,

@@ -1,4 +1,6 @@
 // The commands that the drill adds to the session's; docs/DRILL.md describes them.
+#![tactic(auto)]
+
 mod acts;
 mod numbers;
 mod running;

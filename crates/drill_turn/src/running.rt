@@ -28,7 +28,7 @@ fn end_of(drill: Drill) -> u8 {
 }
 
 // A command of a script, and where the next one starts.
-#[derive(Drop)]
+#[derive(Clone, Copy)]
 struct Placed {
     drill: Drill,
     next: usize,

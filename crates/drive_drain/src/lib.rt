@@ -1,4 +1,6 @@
 // How a drive starts and finishes: whether a stream with an error is drained (closed_and_drained), and what the drive leaves to take.
+#![tactic(auto)]
+
 ghost use Rattle.std.specs.Prelude.{◌≡◌};
 ghost use Rattle.drive_drain.specs.Draining.{AnyStored, Drains, LeavesToTake};
 

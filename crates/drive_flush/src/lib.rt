@@ -1,4 +1,6 @@
 // Queues waiting packets again while they fit the window (flush_waiting_packets).
+#![tactic(auto)]
+
 ghost use Rattle.std.specs.Prelude.{◌≡◌, ◌&&◌, ◌+◌, ◌<◌, leb};
 ghost use Rattle.records_words.specs.Words.{is_stored};
 ghost use Rattle.drive_flush.specs.Flushing.{flushed_packet, flushed_entry, with_count, flushed_of, FlushesPacket, Roomy, Flushes};
@@ -7,7 +9,7 @@ use drive_lost::with_inflight;
 use picks::fits;
 use records::{Entry, Queue, Sender, Sent, expose_length};
 
-#[derive(Drop)]
+#[derive(Clone, Copy)]
 pub struct Flushed {
     pub sender: Sender,
     pub queue: Queue,

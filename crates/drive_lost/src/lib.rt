@@ -1,4 +1,6 @@
 // Driving: what a due timer does to the stored packets (poll_check_timeouts), and what drive's loops share.
+#![tactic(auto)]
+
 mod inflight;
 mod timeouts;
 

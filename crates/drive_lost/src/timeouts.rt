@@ -9,7 +9,7 @@ use constants::UDX_MAX_TRANSMITS;
 use picks::less;
 use records::{Sender, Sent, expose_length};
 
-#[derive(Drop)]
+#[derive(Clone, Copy)]
 pub struct Passed {
     pub sender: Sender,
     // A packet had no transmits left.

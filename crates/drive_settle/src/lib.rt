@@ -1,4 +1,6 @@
 // Settling the largest ack since the last drive (handle_incoming_max_remote_ack).
+#![tactic(auto)]
+
 ghost use Rattle.std.specs.Prelude.{◌≡◌, ◌^◌, ◌<◌};
 ghost use Rattle.rtt.specs.Estimate.{InRange};
 ghost use Rattle.deliver_acks.specs.Acked.{Timed, InWindow};
@@ -9,7 +11,7 @@ use records::{Sender, Stream, Timing, Totals};
 use rtt::Nanos;
 
 // The stream and totals after one part of a drive.
-#[derive(Drop)]
+#[derive(Clone, Copy)]
 pub struct Polled {
     pub stream: Stream,
     pub totals: Totals,

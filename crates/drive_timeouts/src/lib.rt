@@ -1,5 +1,7 @@
 // Timeouts (poll_check_timeouts): a due timer backs off, halves the window and considers the packets lost; a packet with no transmits
 // left ends the stream.
+#![tactic(auto)]
+
 ghost use Rattle.close_state.specs.State.{Pushable};
 ghost use Rattle.drive_timeouts.specs.Timeouts.{Losable, Loses, TimesOutStream, Checkable, Checked};
 ghost use Rattle.std.specs.Prelude.{length};
@@ -9,7 +11,7 @@ use error::UdxError;
 use records::{Stream, Totals};
 use rtt::Nanos;
 
-#[derive(Drop)]
+#[derive(Clone, Copy)]
 pub struct Lost {
     pub stream: Stream,
     // A packet had no transmits left.

@@ -1,4 +1,6 @@
 // The retransmission timer: whether it is due, its next deadline, and the window after it.
+#![tactic(auto)]
+
 ghost use Rattle.std.specs.Prelude.{◌≡◌, cond, ◌*◌, ◌^◌, ◌≤◌, ◌<◌};
 ghost use Rattle.model.specs.Driving as model;
 ghost use Rattle.drive_timer.specs.Timer.{timing_seen, with_deadline, IsDue, Shrinks};

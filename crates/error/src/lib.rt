@@ -1,9 +1,11 @@
 // Why a stream ended and what a call answers.
+#![tactic(auto)]
+
 ghost use Rattle.std.specs.Prelude.{◌≡◌, cond};
 ghost use Rattle.error.specs.Answers.{number_of, error_or};
 
 // The Rust's Option<UdxError>: None while the stream runs, else the error's kind.
-#[derive(Drop)]
+#[derive(Clone, Copy)]
 pub enum UdxError {
     None,
     ConnectionReset,
@@ -12,7 +14,7 @@ pub enum UdxError {
 }
 
 // 01's refusals, in checking order.
-#[derive(Drop)]
+#[derive(Clone, Copy)]
 pub enum Refusal {
     // A store has the wrong length, or a rule of the records is broken.
     BrokenRecords,
@@ -49,7 +51,7 @@ pub enum Refusal {
 }
 
 // The outcome of a call, beside the count of bytes accepted, taken or put.
-#[derive(Drop)]
+#[derive(Clone, Copy)]
 pub enum Outcome {
     Ready,
     Waiting,
@@ -96,7 +98,7 @@ pub fn error_or(error: UdxError, otherwise: Outcome) -> Outcome
 }
 
 // The result of checking a call's refusals before it acts.
-#[derive(Drop)]
+#[derive(Clone, Copy)]
 pub enum Verdict {
     Clear,
     Refused(Refusal),

@@ -1,1 +1,2 @@
 // The progress that the model's calls make: statements in specs/, theorems in proofs/; no code.
+#![tactic(auto)]

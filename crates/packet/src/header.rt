@@ -9,7 +9,7 @@ use constants::{
 use error::{Outcome, Refusal};
 
 // The Rust's Header; type and data offset are one byte each, as on the wire.
-#[derive(Drop)]
+#[derive(Clone, Copy)]
 pub struct Header {
     pub typ: u8,
     pub data_offset: u8,
@@ -19,7 +19,7 @@ pub struct Header {
     pub ack: u32,
 }
 
-#[derive(Drop)]
+#[derive(Clone, Copy)]
 pub enum Decoded {
     Packet(Header),
     Refused(Refusal),
@@ -89,7 +89,7 @@ impl Header {
             return Outcome::Refused(Refusal::ShortBuffer);
         }
         let head = self.to_bytes();
-        bytes::copy(&head, buf);
+        buf[0..UDX_HEADER_SIZE].copy_from_slice(&head);
         Outcome::Ready
     }
 

@@ -4,7 +4,7 @@ ghost use Rattle.packet.specs.Blocks.{next_block, blocks_from};
 
 use crate::little_endian::read_u32_le;
 
-#[derive(Drop)]
+#[derive(Clone, Copy)]
 pub enum Block {
     // Numbers from start to below end.
     Range { start: u32, end: u32 },

@@ -1,18 +1,20 @@
 // The block reader in the Rust's handle_incoming_sacks: it keeps its payload and its place together. `next_at` does the work on a plain
 // slice and a number. Functions that hold a reader are proved by hand, so they are thin; `read_from` is for callers that hold none.
+#![tactic(auto)]
+
 ghost use Rattle.std.specs.Prelude.{◌≡◌};
 ghost use Rattle.packet_blocks.specs.Reader.{read_at};
 
 use packet::Block;
 
 // A block, or the end, and the place after it.
-#[derive(Drop)]
+#[derive(Clone, Copy)]
 pub struct Next {
     pub block: Block,
     pub at: usize,
 }
 
-#[derive(Drop)]
+#[derive(Clone, Copy)]
 pub struct BlockReader<'a> {
     pub payload: &'a [u8],
     pub at: usize,

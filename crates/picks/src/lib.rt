@@ -1,4 +1,6 @@
 // Total combinators that replace branches, so callers have nothing to prove.
+#![tactic(auto)]
+
 ghost use Rattle.std.specs.Prelude.{◌≡◌, true, cond, ◌&&◌, ◌+◌, ◌-◌, ◌≤◌, max, min, leb};
 
 pub fn both(a: bool, b: bool) -> bool

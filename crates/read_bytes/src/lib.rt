@@ -1,5 +1,7 @@
 // Reads bytes in order: whole packets from the read cursor on, and the front part of one that is longer than the room left. The receiver's
 // numbers are passed by value; the held packets are words of a lent array, their bytes are in the lent incoming store.
+#![tactic(auto)]
+
 ghost use Rattle.std.specs.Prelude.{◌≡◌, ◌-◌, length, take};
 ghost use Rattle.records.specs.Put.{put};
 ghost use Rattle.read_bytes.specs.Reading.{
@@ -15,7 +17,7 @@ ghost use Rattle.read_bytes.specs.Reading.{
 use records::{Held, Receiver, expose_length};
 
 // What a read did.
-#[derive(Drop)]
+#[derive(Clone, Copy)]
 pub struct Read {
     pub receiver: Receiver,
     // Bytes put into the buffer, a front part included; the rest of the buffer is unchanged.

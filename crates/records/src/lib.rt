@@ -1,5 +1,7 @@
 // The records of a stream: its numbers by value, grouped as in the model; its packets and its queue as words of lent arrays; the bytes in
 // three lent stores. specs/Seen.antt defines what they mean.
+#![tactic(auto)]
+
 mod errors;
 pub mod open;
 
@@ -13,7 +15,7 @@ pub use records_words::{
 };
 use rtt::{Nanos, Rtt};
 
-#[derive(Drop)]
+#[derive(Clone, Copy)]
 pub struct Ids {
     pub local: u32,
     pub remote: u32,
@@ -21,7 +23,7 @@ pub struct Ids {
     pub segments: u8,
 }
 
-#[derive(Drop)]
+#[derive(Clone, Copy)]
 pub struct Sender {
     // The number of the next packet.
     pub seq: u32,
@@ -35,7 +37,7 @@ pub struct Sender {
     pub cwnd: u32,
 }
 
-#[derive(Drop)]
+#[derive(Clone, Copy)]
 pub struct Receiver {
     // Every number below it has been delivered; it is at most 32 past the read cursor.
     pub ack: u32,
@@ -47,7 +49,7 @@ pub struct Receiver {
 
 // The queue is the words below `count`, or only the last `left` of them while entries are left to take. Nothing is pushed while some are
 // left, and taking the last one empties the queue, so it needs no ring.
-#[derive(Drop)]
+#[derive(Clone, Copy)]
 pub struct Queue {
     pub count: u32,
     pub left: u32,
@@ -58,17 +60,17 @@ pub struct Queue {
 }
 
 // When the retransmission timer is due. A type of its own, which only the crate drive_timer compares with a clock.
-#[derive(Drop)]
+#[derive(Clone, Copy)]
 pub struct Deadline(pub Nanos);
 
-#[derive(Drop)]
+#[derive(Clone, Copy)]
 pub struct Timing {
     pub rtt: Rtt,
     pub deadline: Deadline,
 }
 
 // The Rust's StreamState.
-#[derive(Drop)]
+#[derive(Clone, Copy)]
 pub enum StreamState {
     Open,
     LocalClosed,
@@ -76,7 +78,7 @@ pub enum StreamState {
     BothClosed,
 }
 
-#[derive(Drop)]
+#[derive(Clone, Copy)]
 pub struct Ending {
     pub error: UdxError,
     pub state: StreamState,
@@ -84,7 +86,7 @@ pub struct Ending {
     pub ended: bool,
 }
 
-#[derive(Drop)]
+#[derive(Clone, Copy)]
 pub struct Clocks {
     // Of the last accepted call with a clock, below 2^60.
     pub last: Nanos,
@@ -92,7 +94,7 @@ pub struct Clocks {
     pub drive: Nanos,
 }
 
-#[derive(Drop)]
+#[derive(Clone, Copy)]
 pub struct Stream {
     pub ids: Ids,
     pub sender: Sender,
@@ -105,7 +107,7 @@ pub struct Stream {
 }
 
 // The Rust's StreamStats.
-#[derive(Drop)]
+#[derive(Clone, Copy)]
 pub struct Totals {
     pub tx_packets: u64,
     pub tx_bytes: u64,

@@ -11,7 +11,7 @@ use constants::{
 use error::{Outcome, Refusal, UdxError};
 use rtt::{Nanos, Rtt};
 
-#[derive(Drop)]
+#[derive(Clone, Copy)]
 pub struct Opened {
     pub outcome: Outcome,
     pub stream: Stream,

@@ -1,4 +1,6 @@
 // The three lent byte stores: a packet's bytes are put and found by its number, a state packet's by its place. Callers know no offsets.
+#![tactic(auto)]
+
 ghost use Rattle.std.specs.Prelude.{◌≡◌, ◌++◌, ◌+◌, ◌-◌, ◌*◌, ◌%◌, ◌≤◌, ◌<◌, length, take, drop};
 ghost use Rattle.packet.specs.Header.{header_bytes};
 ghost use Rattle.records.specs.Put.{put};

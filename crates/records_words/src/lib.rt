@@ -8,6 +8,8 @@
 //
 // Number and length occupy the same bits in a packet's word and in its queue entry, so one comparison checks both.
 // A packet's slot is its number mod 32. A word with another number, or with 0 in the length field, is not that packet.
+#![tactic(auto)]
+
 mod lengths;
 
 ghost use Rattle.std.specs.Prelude.{◌≡◌, ◌+◌, ◌-◌, ◌*◌, ◌/◌, ◌%◌, ◌<◌, ◌≤◌, set, if◌then◌else◌, slice_index, slice_set};
@@ -31,7 +33,7 @@ pub use lengths::{expose_length, least, word_count};
 use rtt::Nanos;
 
 // A packet of the outgoing store.
-#[derive(Drop)]
+#[derive(Clone, Copy)]
 pub struct Sent {
     pub number: u32,
     // Bytes, header included; 0 where there is no packet.
@@ -44,7 +46,7 @@ pub struct Sent {
 }
 
 // A packet of the incoming store.
-#[derive(Drop)]
+#[derive(Clone, Copy)]
 pub struct Held {
     pub number: u32,
     // Its length + 1; 0 where there is no packet.
@@ -53,7 +55,7 @@ pub struct Held {
 }
 
 // A queue entry: a stored packet's number and length, or a state packet.
-#[derive(Drop)]
+#[derive(Clone, Copy)]
 pub struct Entry {
     pub number: u32,
     pub length: u32,

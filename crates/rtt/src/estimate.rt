@@ -5,7 +5,7 @@ ghost use Rattle.rtt.specs.Estimate.{fresh, timed, sampled, InRange, Samples};
 use crate::nanos::Nanos;
 use constants::{RTO_MIN, UDX_CLOCK_GRANULARITY};
 
-#[derive(Drop)]
+#[derive(Clone, Copy)]
 pub struct Rtt {
     // 0 until the first sample; below 2^60.
     pub srtt: Nanos,

@@ -3,7 +3,7 @@ ghost use Rattle.std.specs.Prelude.{◌≡◌, max};
 ghost use Rattle.rtt.specs.Estimate.{apart};
 
 // An instant or a span in nanoseconds: a type of its own, so that no packet number is ever added to one.
-#[derive(Drop)]
+#[derive(Clone, Copy)]
 pub struct Nanos(pub u64);
 
 impl Nanos {

@@ -1,4 +1,6 @@
 // Refusal 1: whether a call is lent stores of 01's lengths and records that keep every rule.
+#![tactic(auto)]
+
 ghost use Rattle.std.specs.Prelude.{◌≡◌, length};
 ghost use Rattle.records.specs.Open.{stores_test};
 ghost use Rattle.rules_lent.specs.Broken.{broken_records, lent};

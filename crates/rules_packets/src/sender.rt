@@ -9,7 +9,7 @@ use records::{Sender, Sent, Totals};
 use rtt::Nanos;
 
 // What the pass over the stored packets finds: whether each keeps its rules, and the sums over them if so.
-#[derive(Drop)]
+#[derive(Clone, Copy)]
 struct Sums {
     good: bool,
     inflight: u64,

@@ -9,7 +9,7 @@ use records::{Entry, Queue, Sender};
 
 // What the pass over the entries finds: whether each keeps its rules, whether the packets' numbers are distinct and from remote acked to
 // below seq, and how many state packets there are.
-#[derive(Drop)]
+#[derive(Clone, Copy)]
 struct QueuePass {
     good: bool,
     fresh: bool,

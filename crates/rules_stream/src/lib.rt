@@ -1,5 +1,7 @@
 // Refusal 1: the rules of the records, in one pass over the stored packets, one over the held ones and one over the queue. No byte of a
 // store is read. specs/Ok.antt has the rules.
+#![tactic(auto)]
+
 ghost use Rattle.std.specs.Prelude.{◌≡◌};
 ghost use Rattle.model.specs.Rules.{segments_range, rtt_ranges};
 ghost use Rattle.rules_stream.specs.Ok.{clocks_ok, ok_stream};

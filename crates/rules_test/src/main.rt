@@ -4,13 +4,15 @@
 //   0  fresh records        1  keep the records        2  back to the kept records
 //   3  print the answer     4  print the first `index` bytes of the value
 //   16 and more: set a number of the records, a total or a word (see `put_number`, `put_word`)
+#![tactic(auto)]
+
 ghost use Rattle.std.specs.Prelude.{◌+◌, ◌≤◌, length};
 
 use libc::{STDIN_FILENO, STDOUT_FILENO};
 use records::{Clocks, Queue, Receiver, Sender, Stream, Timing, Totals};
 use rtt::{Nanos, Rtt};
 
-#[derive(Drop)]
+#[derive(Clone, Copy)]
 struct Records {
     stream: Stream,
     totals: Totals,
@@ -19,7 +21,7 @@ struct Records {
     queue: [u64; 128],
 }
 
-#[derive(Drop)]
+#[derive(Clone, Copy)]
 struct Tester {
     now: Records,
     kept: Records,

@@ -1,4 +1,6 @@
 // Runs the script on standard input between two ends and writes a line for each command.
+#![tactic(auto)]
+
 use constants::{HEADER_STORE, INCOMING_STORE, OUTGOING_STORE};
 use libc::{STDIN_FILENO, STDOUT_FILENO};
 use session_kept::KEPT_STORE;

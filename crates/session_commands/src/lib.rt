@@ -1,4 +1,6 @@
 // The commands of a session on the end they are for: the call, and its line in a lent buffer.
+#![tactic(auto)]
+
 ghost use Rattle.std.specs.Prelude.{◌≡◌, ◌≤◌, ◌<◌, min, true, [], length, get_or, replicate};
 ghost use Rattle.model.specs.Sending as sending;
 ghost use Rattle.model.specs.Receiving as receiving;
@@ -22,7 +24,7 @@ use session_text::{LINE, Name};
 pub const SCRATCH: usize = 65_536;
 
 // An end after a command, and the length of the command's line.
-#[derive(Drop)]
+#[derive(Clone, Copy)]
 pub struct Acted {
     pub end: SessionEnd,
     pub len: usize,

@@ -12,7 +12,7 @@ use rtt::Nanos;
 use udx::Step;
 
 // An end after a call, and what the call returned.
-#[derive(Drop)]
+#[derive(Clone, Copy)]
 pub struct Called {
     pub end: SessionEnd,
     pub outcome: Outcome,

@@ -1,4 +1,6 @@
 // An end of a session: a stream and what its caller keeps for it. The stores are lent separately.
+#![tactic(auto)]
+
 ghost use Rattle.session_ends.specs.Calls.{stores, Fresh};
 
 mod calls;
@@ -8,7 +10,7 @@ use records::{Stream, Totals};
 use rtt::Nanos;
 use session_kept::Kept;
 
-#[derive(Drop)]
+#[derive(Clone, Copy)]
 pub struct SessionEnd {
     pub stream: Stream,
     pub totals: Totals,

@@ -1,5 +1,7 @@
 // The last 32 datagrams taken from an end, in slots of 1,400 bytes: the oldest is in slot `first`, each later one in the next slot, and
 // slot 0 follows slot 31.
+#![tactic(auto)]
+
 ghost use Rattle.std.specs.Prelude.{◌≡◌, [], ◌∷◌, ◌++◌, map, ◌≤◌, ◌<◌, ltb, length, get_or};
 ghost use Rattle.model.specs.Lists.{Bytes};
 ghost use Rattle.model.specs.Driving.{datagrams_of};
@@ -23,7 +25,7 @@ pub const KEPT_STORE: usize = 44_800;
 
 const SLOT: usize = 1_400;
 
-#[derive(Drop)]
+#[derive(Clone, Copy)]
 pub struct Kept {
     // The slot of the oldest.
     pub first: u16,

@@ -1,19 +1,21 @@
 // The commands of a session script: a command byte, then its operands, little-endian. Places count from the command byte. A missing byte
 // reads as 0, so callers need not check the length.
+#![tactic(auto)]
+
 ghost use Rattle.std.specs.Prelude.{◌≡◌, ◌+◌, ◌*◌, ◌≤◌, get_or};
 ghost use Rattle.session_script.specs.Script.{width_of, u16_at, u32_at, u64_at, read_of, operands_of, Parses};
 
 use rtt::Nanos;
 
 // How many bytes of operands a command byte has.
-#[derive(Drop)]
+#[derive(Clone, Copy)]
 pub enum Width {
     Known(usize),
     Unknown,
 }
 
 // One command with its operands.
-#[derive(Drop)]
+#[derive(Clone, Copy)]
 pub enum Command {
     Write { end: u8, length: u16, fill: u8 },
     Drive { end: u8, clock: Nanos },
@@ -26,7 +28,7 @@ pub enum Command {
 }
 
 // A command and how many bytes of the script it takes; where it ends the run, `stop` of session_turn skips the rest.
-#[derive(Drop)]
+#[derive(Clone, Copy)]
 pub struct Parsed {
     pub command: Command,
     pub size: usize,

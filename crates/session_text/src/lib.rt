@@ -1,4 +1,6 @@
 // The lines of a session, put piece by piece into a buffer. Each function puts its piece at a place and returns the place past it.
+#![tactic(auto)]
+
 mod lines;
 mod pieces;
 

@@ -10,7 +10,7 @@ use error::Outcome;
 pub const LINE: usize = 8_400;
 
 // The name of a command, or the word before the offset of a script that ends early.
-#[derive(Drop)]
+#[derive(Clone, Copy)]
 pub enum Name {
     Write,
     Drive,

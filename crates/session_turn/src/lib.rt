@@ -1,5 +1,7 @@
 // The session of 01: one command of a script at a time, on one of two ends. A command's line is put into a lent buffer, for a program to
 // write or to compare.
+#![tactic(auto)]
+
 mod opening;
 mod running;
 

@@ -17,14 +17,14 @@ use session_kept::{KEPT_STORE, Kept};
 use session_script::Command;
 use session_text::LINE;
 
-#[derive(Drop)]
+#[derive(Clone, Copy)]
 pub struct Ends {
     pub zero: SessionEnd,
     pub one: SessionEnd,
 }
 
 // The ends after a command, where the next one starts (the script's end if the run ends), and the length of the command's line.
-#[derive(Drop)]
+#[derive(Clone, Copy)]
 pub struct Turn {
     pub ends: Ends,
     pub next: usize,
@@ -87,7 +87,7 @@ fn is_for(number: u8, command: Command, theirs: Kept) -> bool
 }
 
 // The command at a place in a script, and where the next one starts.
-#[derive(Drop)]
+#[derive(Clone, Copy)]
 struct Placed {
     command: Command,
     next: usize,

@@ -1,4 +1,6 @@
 // The entries left to take, and how many of them the next batch has (poll_transmit).
+#![tactic(auto)]
+
 ghost use Rattle.std.specs.Prelude.{◌≡◌, ◌<◌, ◌≤◌, get_or};
 ghost use Rattle.records_words.specs.Words.{entry_of};
 ghost use Rattle.records.specs.Seen.{entry_words};

@@ -1,4 +1,6 @@
 // Taking one entry of a batch: its bytes, and its packet's mark (to_transmit, for one packet).
+#![tactic(auto)]
+
 ghost use Rattle.std.specs.Prelude.{◌≡◌, ◌&&◌, ◌+◌, ◌<◌, ◌≤◌, leb, ltb, length};
 ghost use Rattle.records_words.specs.Words.{is_stored};
 ghost use Rattle.take_entry.specs.Transmit.{taken_packet, TransmitBounds, TakesState, TakesPacket, CanTakeEntry, TakesEntry};
@@ -8,7 +10,7 @@ use records::{Entry, Sender, Sent};
 use rtt::Nanos;
 
 // How much of a batch has been put.
-#[derive(Drop)]
+#[derive(Clone, Copy)]
 pub struct Progress {
     // Bytes put.
     pub at: usize,

@@ -1,5 +1,7 @@
 // Taking the entries of the next batch, one after another: their bytes, with the mark that the socket driver gives (to_transmit); and look,
 // the next datagram.
+#![tactic(auto)]
+
 ghost use Rattle.std.specs.Prelude.{◌≡◌, ◌≤◌, length};
 ghost use Rattle.records.specs.Seen.{QueueFormed};
 ghost use Rattle.take_next.specs.Take.{
@@ -79,7 +81,7 @@ fn taken_queue(q: Queue, k: u32, place: u32) -> Queue
 }
 
 // A batch handed out.
-#[derive(Drop)]
+#[derive(Clone, Copy)]
 pub struct Handed {
     // The queue without it.
     pub queue: Queue,
@@ -127,7 +129,7 @@ pub fn next_batch(
 // look
 
 // Where a datagram is: at place `number` of the header store, or in the slot of packet `number`, with `length` bytes; 0 for none.
-#[derive(Drop)]
+#[derive(Clone, Copy)]
 struct Next {
     state: bool,
     number: u32,

@@ -13,6 +13,8 @@
 //   close           1, 5, 6, 13
 //   Header::encode  2
 //   Header::from_bytes (decode)  7
+#![tactic(auto)]
+
 pub mod close;
 pub mod deliver;
 pub mod drive;

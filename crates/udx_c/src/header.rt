@@ -7,7 +7,7 @@ use packet::{Decoded, Header};
 use udx_c_numbers::refusal_byte;
 
 #[repr(C)]
-#[derive(Drop)]
+#[derive(Clone, Copy)]
 pub struct FlatHeader {
     pub stream_id: u32,
     pub recv_win: u32,
@@ -19,7 +19,7 @@ pub struct FlatHeader {
 
 // The header is all 0 if it is refused.
 #[repr(C)]
-#[derive(Drop)]
+#[derive(Clone, Copy)]
 pub struct FlatDecoded {
     pub header: FlatHeader,
     pub outcome: u8,

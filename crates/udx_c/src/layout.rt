@@ -8,7 +8,7 @@ use udx_c_numbers::{
 };
 
 #[repr(C)]
-#[derive(Drop)]
+#[derive(Clone, Copy)]
 pub struct Numbers {
     pub n: [u64; 24],
 }

@@ -3,6 +3,8 @@
 //
 // The caller may pass any numbers: a byte that is not a valid error, close state or flag is a broken record, and the call answers
 // refusal 1.
+#![tactic(auto)]
+
 mod close;
 mod deliver;
 mod drive;

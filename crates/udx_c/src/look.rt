@@ -8,7 +8,7 @@ use udx_c_part::{Part, look_place};
 
 // Where the next datagram is. C cannot be given a subslice, so this is a store, a start and a length.
 #[repr(C)]
-#[derive(Drop)]
+#[derive(Clone, Copy)]
 pub struct FlatPart {
     pub start: usize,
     // 0 if no datagram is left to take, and in place of refusal 1.

@@ -1,4 +1,6 @@
 // The records and the answers of a call as plain numbers for C, and back. No function here has a precondition.
+#![tactic(auto)]
+
 mod ending;
 mod flatten;
 mod streams;

@@ -2,7 +2,7 @@
 // means.
 
 #[repr(C)]
-#[derive(Drop)]
+#[derive(Clone, Copy)]
 pub struct FlatIds {
     pub local: u32,
     pub remote: u32,
@@ -10,7 +10,7 @@ pub struct FlatIds {
 }
 
 #[repr(C)]
-#[derive(Drop)]
+#[derive(Clone, Copy)]
 pub struct FlatSender {
     pub seq: u32,
     pub remote_acked: u32,
@@ -20,7 +20,7 @@ pub struct FlatSender {
 }
 
 #[repr(C)]
-#[derive(Drop)]
+#[derive(Clone, Copy)]
 pub struct FlatReceiver {
     pub ack: u32,
     pub read_cursor: u32,
@@ -28,7 +28,7 @@ pub struct FlatReceiver {
 }
 
 #[repr(C)]
-#[derive(Drop)]
+#[derive(Clone, Copy)]
 pub struct FlatQueue {
     pub count: u32,
     pub left: u32,
@@ -37,7 +37,7 @@ pub struct FlatQueue {
 }
 
 #[repr(C)]
-#[derive(Drop)]
+#[derive(Clone, Copy)]
 pub struct FlatTiming {
     pub srtt: u64,
     pub rttvar: u64,
@@ -46,7 +46,7 @@ pub struct FlatTiming {
 }
 
 #[repr(C)]
-#[derive(Drop)]
+#[derive(Clone, Copy)]
 pub struct FlatClocks {
     pub last: u64,
     pub drive: u64,
@@ -54,7 +54,7 @@ pub struct FlatClocks {
 
 // Bytes, not enums, since C may pass any value.
 #[repr(C)]
-#[derive(Drop)]
+#[derive(Clone, Copy)]
 pub struct FlatEnding {
     // 0 none, 1 ConnectionReset, 2 UnexpectedEof, 3 TimedOut.
     pub error: u8,
@@ -65,7 +65,7 @@ pub struct FlatEnding {
 }
 
 #[repr(C)]
-#[derive(Drop)]
+#[derive(Clone, Copy)]
 pub struct FlatStream {
     pub ids: FlatIds,
     pub sender: FlatSender,
@@ -77,7 +77,7 @@ pub struct FlatStream {
 }
 
 #[repr(C)]
-#[derive(Drop)]
+#[derive(Clone, Copy)]
 pub struct FlatTotals {
     pub tx_packets: u64,
     pub tx_bytes: u64,
@@ -89,7 +89,7 @@ pub struct FlatTotals {
 
 // What every call answers. `refusal` is 0 unless the outcome is 4.
 #[repr(C)]
-#[derive(Drop)]
+#[derive(Clone, Copy)]
 pub struct FlatStep {
     pub stream: FlatStream,
     pub totals: FlatTotals,

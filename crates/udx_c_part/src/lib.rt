@@ -1,5 +1,7 @@
 // Look for a caller that cannot be given a subslice: where in a lent store the next datagram is. The bytes there are those that `look`
 // shows.
+#![tactic(auto)]
+
 ghost use Rattle.std.specs.Prelude.{◌≡◌};
 ghost use Rattle.records.specs.Seen.{QueueFormed};
 ghost use Rattle.rules_lent.specs.Broken.{lent};
@@ -12,7 +14,7 @@ use take_batch::left_entry;
 use take_entry::there;
 
 // A part of a lent store.
-#[derive(Drop)]
+#[derive(Clone, Copy)]
 pub struct Part {
     // Part of the header store, else of the outgoing store.
     pub header: bool,

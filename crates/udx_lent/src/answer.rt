@@ -3,7 +3,7 @@ use error::Outcome;
 use records::Stream;
 
 // What a call answers, with the stream after it; the totals are in the record it was lent.
-#[derive(Drop)]
+#[derive(Clone, Copy)]
 pub struct Answer {
     pub stream: Stream,
     pub outcome: Outcome,

@@ -1,5 +1,7 @@
 // The refusals of each call in 01's order, as a verdict: the first test that holds, or clear. No function has a precondition; the caller
 // does refusal 1's test and passes its result.
+#![tactic(auto)]
+
 mod close;
 mod deliver;
 mod early;

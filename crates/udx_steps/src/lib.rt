@@ -1,5 +1,7 @@
 // What a call returns: the step of an accepted call, and that of a refused one. Steps are only put together here, so no function has a
 // precondition.
+#![tactic(auto)]
+
 mod close;
 mod deliver;
 mod drive;

@@ -6,7 +6,7 @@ use error::{Outcome, Refusal};
 use records::{Stream, Totals};
 
 // What a call answers, with the stream and the totals after it.
-#[derive(Drop)]
+#[derive(Clone, Copy)]
 pub struct Step {
     pub stream: Stream,
     pub totals: Totals,

@@ -1,4 +1,6 @@
 // Sending: the pieces of a write are stored and queued one after another while they may go (poll_write over send_data_packet).
+#![tactic(auto)]
+
 ghost use Rattle.std.specs.Prelude.{length};
 ghost use Rattle.write_all.specs.Write.{Ready, Writes};
 
@@ -7,7 +9,7 @@ use records::{expose_length, least};
 pub use write_piece::Outbox;
 use write_piece::{goes, send_data_packet};
 
-#[derive(Drop)]
+#[derive(Clone, Copy)]
 pub struct Written {
     pub outbox: Outbox,
     // Bytes accepted.

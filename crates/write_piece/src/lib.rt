@@ -1,4 +1,6 @@
 // One piece of a write: checks whether it goes, stores its packet, queues its entry and updates the numbers (send_data_packet).
+#![tactic(auto)]
+
 ghost use Rattle.std.specs.Prelude.{◌≡◌, ◌+◌, ◌*◌, ◌%◌, ◌<◌, ◌≤◌, ◌++◌, length, nat_le};
 ghost use Rattle.packet.specs.Header.{header_bytes};
 ghost use Rattle.records.specs.Put.{put};
@@ -21,7 +23,7 @@ use records::{Entry, Queue, Sender, Sent, Totals};
 use rtt::Nanos;
 
 // What a sent piece changes besides the words and the bytes.
-#[derive(Drop)]
+#[derive(Clone, Copy)]
 pub struct Outbox {
     pub sender: Sender,
     pub queue: Queue,

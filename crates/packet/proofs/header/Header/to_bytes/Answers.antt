@@ -1,0 +1,31 @@
+-- `packet::header::Header::to_bytes` meets its contract: each byte is the one that `header_bytes` has at its place, four for each number.
+use borrow.Author.Rules.{rules}
+use Rattle.packet.specs.Header.{header_bytes}
+use Rattle.packet.proofs.HeaderLaws.{bytes_of, laid}
+use Rattle.packet.proofs.header.Header.to_bytes.Goals as goal
+
+pub returns : goal.returns
+unfolding header_bytes
+returns c =
+    let h = c.args.self in
+    laid 255 1 h.typ h.data_offset
+    (bytes_of h.stream_id
+    c.low.ensures
+    c.low-2.ensures
+    c.low-3.ensures
+    c.low-4.ensures)
+    (bytes_of h.recv_win
+    c.low-5.ensures
+    c.low-6.ensures
+    c.low-7.ensures
+    c.low-8.ensures)
+    (bytes_of h.seq
+    c.low-9.ensures
+    c.low-10.ensures
+    c.low-11.ensures
+    c.low-12.ensures)
+    (bytes_of h.ack
+    c.low-13.ensures
+    c.low-14.ensures
+    c.low-15.ensures
+    c.low-16.ensures)
