@@ -20,6 +20,13 @@ of_copy d at s after h =
     let short : length (take (length s) (drop at d)) ≤ length s = simp length-take (omega arith) in
     rw (h, e, take-length, drop_of_length-le (take (length s) (drop at d)) short, append-nil, drop-drop)
 
+-- the same, where what was copied is said as the elements themselves
+pub of_copied : (d : List ℕ) (at : ℕ) (s after : List ℕ) → after ≡ s → take at d ++ (after ++ drop (at + length s - at) (drop at d)) ≡ put d at s
+unfolding put
+of_copied d at s after h =
+    let e : at + length s - at ≡ length s = omega arith in
+    rw (h, e, drop-drop)
+
 -- a header's bytes, then a payload right after them
 pub both : (d : List ℕ) (at : ℕ) (h : Header) (head payload : List ℕ) (first after : List ℕ) → at + 20 + length payload ≤ length d
     → head ≡ header_bytes h → first ≡ put d at head → after ≡ put first (at + 20) payload → after ≡ put d at (header_bytes h ++ payload)

@@ -14,7 +14,7 @@ pub fn put_at(dst: &mut [u8], at: usize, src: &[u8])
     ensures { dst.new ≡ put dst.old at src.now }
 {
     let end = at + src.len();
-    bytes::copy(src, &mut dst[at..end]);
+    dst[at..end].copy_from_slice(src);
 }
 
 // Puts a header and, right after it, a payload.
