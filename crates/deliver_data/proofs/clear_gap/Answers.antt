@@ -1,0 +1,9 @@
+-- `deliver_data::clear_gap` meets its contract. The loop's invariant is `Clearing`, up to the larger of top and n; the distance to n falls.
+use borrow.Author.Rules.{rules}
+use Prim.Native.Nat.{◌-◌, ◌≤◌, max}
+use native.Mathlib.Omega.{arith}
+use Rattle.deliver_data.proofs.AbsorbLaws.{Clearing, clear_starts, clear_turn, clear_ends}
+use Rattle.deliver_data.proofs.clear_gap.Goals as goal
+
+pub loop-m-preserved : goal.loop-m-preserved
+loop-m-preserved c = (clear_turn c.loop-m.invariant.0 c.clear_held.ensures, omega arith)

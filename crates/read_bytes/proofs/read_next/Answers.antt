@@ -1,0 +1,39 @@
+-- `read_bytes::read_next` meets its contract. The loop's invariant is `Going`, with the buffer's length; the distance to top falls. The
+-- turn and each exit have one law, which combines what the calls and tests say.
+use borrow.Author.Rules.{rules}
+use Prim.Native.Nat.{◌-◌}
+use native.Mathlib.Omega.{arith}
+use mathlib.Core.Path.{◌≡◌, refl, sym, ◌∙◌}
+use lib.ListN.{length}
+use Rattle.read_bytes.specs.Reading.{Fit}
+use Rattle.read_bytes.proofs.ReadLaws.{Going, read_starts, read_fits, read_turn, read_part, read_at_gap, read_at_top}
+use Rattle.read_bytes.proofs.read_next.Goals as goal
+
+fits : (h : tie.Then2 invariant-loop decreases-loop) → Fit h.before.before.get-held.result
+fits h =
+    let b = h.before.before.before.before in
+    read_fits b.before.before.loop.invariant.0 b.if1.true h.before.before.get-held.ensures (sym h.before.is_held_lem.ensures ∙ h.if2.true)
+
+pub loop-s-init : goal.loop-s-init
+loop-s-init c = (read_starts _ _ _ _ c.requires, refl)
+
+pub returns-then-size-count : goal.returns-then-size-count
+returns-then-size-count c =
+    read_part c.loop-s.invariant.0 c.loop-s-test.true c.get_held-p.ensures (sym c.is_held.ensures ∙ c.if-is_held.true)
+    c.left-k.ensures c.if-size-count.true
+    c.read_front.ensures
+
+pub loop-s-preserved : goal.loop-s-preserved
+loop-s-preserved c =
+    let turn =
+    read_turn c.loop-s.invariant.0 c.loop-s-test.true c.get_held-p.ensures (sym c.is_held.ensures ∙ c.if-is_held.true)
+    c.left-k.ensures c.if-size-count.false
+    c.put_next.ensures in
+    (turn, search rules)
+
+pub returns-else-is_held : goal.returns-else-is_held
+returns-else-is_held c =
+    read_at_gap c.loop-s.invariant.0 c.loop-s-test.true c.get_held-p.ensures (sym c.is_held.ensures ∙ c.if-is_held.false)
+
+pub returns : goal.returns
+returns c = read_at_top c.loop-s.invariant.0 c.loop-s-test.false
