@@ -5,7 +5,7 @@ use mathlib.Core.List.{List, [], ◌∷◌}
 use native.Mathlib.Omega.{arith}
 use lib.ListN.{length}
 use Rattle.packet.specs.declared.sack.Block.TheVariants.{Range, NoMore}
-use Rattle.packet.specs.Blocks.{Span, blocks_from, next_block}
+use Rattle.packet.specs.Blocks.{blocks_from, next_block}
 use Rattle.packet.proofs.Blocks.{range_inside, range_first, end_none}
 use Rattle.packet_blocks.specs.declared.Next.{Next}
 use Rattle.packet_blocks.specs.Reader.{read_at}
