@@ -1,5 +1,5 @@
 // The block reader in the Rust's handle_incoming_sacks: it keeps its payload and its place together. `next_at` does the work on a plain
-// slice and a number. Functions that hold a reader are proved by hand, so they are thin; `read_from` is for callers that hold none.
+// slice and a number. Functions that hold a reader are thin; `read_from` is for callers that hold none.
 #![tactic(auto)]
 
 ghost use Rattle.std.specs.Prelude.{◌≡◌};
