@@ -5,14 +5,8 @@ use Prim.Native.Nat.{◌-◌}
 use native.Mathlib.Omega.{arith}
 use mathlib.Core.Path.{◌≡◌, refl, sym, ◌∙◌}
 use lib.ListN.{length}
-use Rattle.read_bytes.specs.Reading.{Fit}
-use Rattle.read_bytes.proofs.ReadLaws.{Going, read_starts, read_fits, read_turn, read_part, read_at_gap, read_at_top}
+use Rattle.read_bytes.proofs.ReadLaws.{Going, read_starts, read_turn, read_part, read_at_gap, read_at_top}
 use Rattle.read_bytes.proofs.read_next.Goals as goal
-
-fits : (h : tie.Then2 invariant-loop decreases-loop) → Fit h.before.before.get-held.result
-fits h =
-    let b = h.before.before.before.before in
-    read_fits b.before.before.loop.invariant.0 b.if1.true h.before.before.get-held.ensures (sym h.before.is_held_lem.ensures ∙ h.if2.true)
 
 pub loop-s-init : goal.loop-s-init
 loop-s-init c = (read_starts _ _ _ _ c.requires, refl)

@@ -9,23 +9,14 @@ use Rattle.take_batch.specs.Batch.{entry_size, Batched}
 use Rattle.take_batch.proofs.SameSize.{same_from, same_start, same_again, same_over, same_ends, batched}
 use Rattle.take_batch.proofs.batch.Goals as goal
 
-ends : (c : tie.After-entry-size invariant-loop decreases-loop) (k : ℕ)
-    → let a = c.before.before.before.before.before.before.args in
-    k ≤ c.before.before.least.result
-    → k ≡ same_from (entry_words a.q a.queue.now) c.before.before.least.result c.entry-size.result 0
-    → Batched a.q a.segments a.queue.now k
-ends c k h e =
-    let b = c.before.before.before.before.before.before in
-    let a = b.args in
-    let p = b.requires in
-    let long : length a.queue.now ≡ 128 = search rules in
-    batched a.q a.segments a.queue.now p.2 p.0 (omega arith) _ _ k c.before.before.least.ensures
-    (c.entry-size.ensures ∙ ap entry_size c.before.left-entry.ensures) h e
-
 pub returns-then-entry_size-size : goal.returns-then-entry_size-size
 returns-then-entry_size-size c =
     let i = c.loop-k.invariant in
-    ends c _ i.0
+    let a = c.args in
+    let p = c.requires in
+    let long : length a.queue.now ≡ 128 = search rules in
+    batched a.q a.segments a.queue.now p.2 p.0 (omega arith) _ _ _ c.least-most.ensures
+    (c.entry_size-size.ensures ∙ ap entry_size c.left_entry.ensures) i.0
     (same_ends _ _ _ _ _ i.1 (λ z. c.if-entry_size-size.true (c.entry_size.ensures ∙ ap entry_size c.left_entry-in-loop-k.ensures ∙ z)))
 
 pub loop-k-preserved : goal.loop-k-preserved
@@ -39,4 +30,9 @@ loop-k-preserved c =
 pub returns : goal.returns
 returns c =
     let i = c.loop-k.invariant in
-    ends c _ i.0 (same_over _ _ _ _ _ i.1 c.loop-k-test.false)
+    let a = c.args in
+    let p = c.requires in
+    let long : length a.queue.now ≡ 128 = search rules in
+    batched a.q a.segments a.queue.now p.2 p.0 (omega arith) _ _ _ c.least-most.ensures
+    (c.entry_size-size.ensures ∙ ap entry_size c.left_entry.ensures) i.0
+    (same_over _ _ _ _ _ i.1 c.loop-k-test.false)
