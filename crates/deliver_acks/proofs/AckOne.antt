@@ -1,6 +1,6 @@
 -- Acking one number. If its packet is stored, clearing its word removes it from the store that is seen, and the numbers are the model's;
 -- if not, nothing changes on either side.
-use Prim.Native.Nat.{ℕ, ◌+◌, ◌-◌, ◌%◌, ◌^◌, ◌≤◌, ◌<◌}
+use Prim.Native.Nat.{ℕ, ◌-◌, ◌%◌}
 use mathlib.Core.Path.{◌≡◌, refl, ap, ap₂, sym, ◌∙◌}
 use mathlib.Core.List.{List}
 use mathlib.Core.Option.{Option, none, some}
@@ -10,15 +10,14 @@ use lib.ListN.{length, set}
 use Rattle.rtt.specs.declared.estimate.Rtt.{Rtt}
 use Rattle.rtt.specs.Estimate.{InRange, sampled}
 use Rattle.model.specs.Lists.{Bytes, on}
-use Rattle.model.specs.Slots.{Slots, ceiling, get, remove}
+use Rattle.model.specs.Slots.{Slots, ceiling, get}
 use Rattle.model.specs.Stream as model
 use Rattle.model.specs.Receiving.{left, measured, count_acked, handle_remote_ack, ack_number}
 use Rattle.records_words.specs.declared.Sent.{Sent}
 use Rattle.records.specs.declared.Sender.{Sender}
 use Rattle.records.specs.declared.Stream.{Stream}
-use Rattle.records.specs.declared.Totals.{Totals}
 use Rattle.records_words.specs.Words.{sent_in, is_stored}
-use Rattle.records.specs.Cut.{cut, outgoing_slot}
+use Rattle.records.specs.Cut.{outgoing_slot}
 use Rattle.records.specs.Seen.{Lent, seen, packet_of, seen_sender, seen_totals, seen_outgoing}
 use Rattle.records.specs.Setters.{with_words}
 use Rattle.records.proofs.Cut.{cut_length}

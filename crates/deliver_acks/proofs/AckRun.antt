@@ -19,7 +19,7 @@ use Rattle.records.specs.Seen.{Lent, seen}
 use Rattle.records.specs.Setters.{with_words}
 use Rattle.records.proofs.SeenOutgoing.{outgoing_length, get_settled, get_unsent}
 use Rattle.deliver_acks.specs.declared.Acks.{Acks}
-use Rattle.deliver_acks.specs.Acked.{Timed, InWindow, with_acks, SameNumbers, AcksOne}
+use Rattle.deliver_acks.specs.Acked.{InWindow, with_acks, SameNumbers, AcksOne}
 use Rattle.deliver_acks.specs.Sacks.{RunInWindow, AcksRun, AcksBlocks}
 use Rattle.deliver_acks.proofs.AckOne.{same_refl}
 use Rattle.deliver_acks.proofs.Clipped.{clipped}

@@ -1,6 +1,6 @@
 -- Acking runs of numbers on the records: a run in the window, a SACK block, and all blocks of a payload. Each agrees with the model,
 -- which visits every number.
-use Rattle.std.specs.Prelude.{ℕ, ◌+◌, ◌-◌, ◌≤◌, ◌<◌, ◌≡◌, List}
+use Rattle.std.specs.Prelude.{ℕ, ◌+◌, ◌-◌, ◌≤◌, ◌≡◌, List}
 use Rattle.packet.specs.Blocks.{blocks}
 use Rattle.rtt.specs.Estimate.{InRange}
 use Rattle.model.specs.Lists.{Bytes}

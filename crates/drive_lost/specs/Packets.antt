@@ -5,7 +5,6 @@ use Rattle.records_words.specs.declared.Sent.{Sent}
 use Rattle.records.specs.declared.Sender.{Sender}
 use Rattle.records.specs.declared.Stream.{Stream}
 use Rattle.records_words.specs.Words.{sent_in, is_stored}
-use Rattle.records.specs.Seen.{Lent}
 
 -- 01, 'Rules of the records': "lengths are 21 to 1,400 stored"; "neither a time sent nor the last drive's clock is past the last clock,
 -- which is below 2^60"
