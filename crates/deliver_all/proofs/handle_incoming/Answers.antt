@@ -1,0 +1,9 @@
+-- `deliver_all::handle_incoming` meets its contract: the parts one after another.
+use Rattle.deliver_all.proofs.Whole.{data_able, data_takes, handles}
+use mathlib.Core.Path.{sym, ◌∙◌}
+use borrow.Author.Rules.{rules}
+use Rattle.deliver_all.proofs.handle_incoming.Goals as goal
+
+pub returns : goal.returns
+returns c =
+    rw c.on_ack-sender.ensures (handles c.requires c.before_data-b.ensures c.on_data-d.ensures)
