@@ -1,5 +1,5 @@
 -- What the pass over the queue's entries finds: the rules of one entry, and what is known after a whole pass.
-use Rattle.std.specs.Prelude.{ℕ, ◌%◌, ◌≡◌, List, Bool, true, cond, ◌&&◌, ltb, leb, eqb, length}
+use Rattle.std.specs.Prelude.{ℕ, ◌%◌, ◌≡◌, List, Bool, true, cond, ◌&&◌, ltb, leb, eqb}
 use Rattle.model.specs.Slots.{ceiling}
 use Rattle.model.specs.Rules.{distinct, every}
 use Rattle.records_words.specs.declared.Entry.{Entry}

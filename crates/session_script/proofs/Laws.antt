@@ -7,7 +7,6 @@ use lib.ListN.{length, get_or}
 use Rattle.session_script.specs.declared.Width.{Width}
 use Rattle.session_script.specs.declared.Width.TheVariants.{Known, Unknown}
 use Rattle.session_script.specs.declared.Command.{Command}
-use Rattle.session_script.specs.declared.Parsed.{Parsed}
 use Rattle.session_script.specs.Script.{width_of, operands_of, ends_run, parsed_with, parsed_of}
 
 module _ (s : List ℕ) (c end : ℕ) (width : Width) (ec : c ≡ get_or s 0 0) (ee : end ≡ get_or s 1 0) (ew : width ≡ width_of c) where
