@@ -1,17 +1,15 @@
 -- Settling all numbers up to the largest ack. Invariant: what the model still has to settle gives its whole result. The packets that stay
 -- were stored before, so they are still within their bounds.
-use Prim.Native.Nat.{ℕ, zero, suc, ◌+◌, ◌-◌, ◌%◌, ◌^◌, ◌≤◌, ◌<◌}
+use Prim.Native.Nat.{ℕ, zero, suc, ◌-◌, ◌%◌, ◌^◌, ◌≤◌, ◌<◌}
 use native.Mathlib.Omega.{arith}
 use mathlib.Core.Path.{◌≡◌, refl, ap, sym, subst, ◌∙◌}
 use mathlib.Core.List.{List, []}
-use mathlib.Core.Option.{Option, none, some}
+use mathlib.Core.Option.{none, some}
 use mathlib.Core.Bool.{Bool, true, false, cond}
 use lib.Dec.{ltb}
 use lib.ListN.{length}
-use Rattle.rtt.specs.declared.estimate.Rtt.{Rtt}
 use Rattle.rtt.specs.Estimate.{InRange}
-use Rattle.model.specs.Lists.{Bytes}
-use Rattle.model.specs.Slots.{Slots, ceiling, get}
+use Rattle.model.specs.Slots.{ceiling, get}
 use Rattle.model.specs.Stream as model
 use Rattle.model.specs.Driving as drive
 use Rattle.model.proofs.Slots.{no_some, some_inj}
@@ -31,7 +29,7 @@ use Rattle.deliver_acks.specs.Acked.{InWindow, with_acks}
 use Rattle.drive_lost.specs.Packets.{SentBounds, AllSentBounds}
 use Rattle.drive_lost.proofs.Remark.{untimed}
 use Rattle.drive_settle.specs.declared.Polled.{Polled}
-use Rattle.drive_settle.specs.Settling.{no_ack_sender, SettlesOne, Settleable, Settles, with_timed, Restarts, Settled}
+use Rattle.drive_settle.specs.Settling.{no_ack_sender, SettlesOne, Settleable, Settles, Restarts, Settled}
 use Rattle.drive_settle.proofs.SettleOne.{ack_cases}
 
 abbrev seen_of : Acks → List ℕ → Stream → Lent → model.End

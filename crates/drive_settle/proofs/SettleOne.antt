@@ -1,5 +1,5 @@
 -- Settling the lowest number: it is acked, so its packet is no longer stored, and what is seen from the next number on is the same store.
-use Prim.Native.Nat.{ℕ, suc, ◌+◌, ◌≤◌, ◌<◌}
+use Prim.Native.Nat.{ℕ, suc, ◌+◌, ◌<◌}
 use native.Mathlib.Numerals.{add-one}
 use native.Mathlib.Omega.{arith}
 use mathlib.Core.Path.{◌≡◌, refl, ap, ap₂, sym, ◌∙◌}
@@ -8,7 +8,7 @@ use mathlib.Core.List.{List}
 use mathlib.Core.Option.{Option, none, some}
 use lib.ListN.{length}
 use Rattle.model.specs.Lists.{on}
-use Rattle.model.specs.Slots.{Slots, ceiling, get, remove}
+use Rattle.model.specs.Slots.{Slots, ceiling, get}
 use Rattle.model.specs.Stream as model
 use Rattle.model.specs.Receiving.{handle_remote_ack, ack_number}
 use Rattle.model.specs.Driving as drive
