@@ -1,6 +1,6 @@
 -- The laws of `decimal_to` and `hex_of`.
 use Prim.Native.Nat.{ℕ, zero, suc, ◌+◌, ◌-◌, ◌*◌, ◌/◌, ◌%◌, ◌≤◌, ◌<◌}
-use mathlib.Core.Path.{◌≡◌, refl, sym, ap, ◌∙◌}
+use mathlib.Core.Path.{◌≡◌, refl, ap, ◌∙◌}
 use mathlib.Core.Bool.{Bool, true, false, cond}
 use mathlib.Core.List.{List, [], ◌∷◌, ◌++◌}
 use native.Mathlib.Numerals.{add-one, sub-one}
@@ -10,8 +10,7 @@ use lib.Dec.{ltb}
 use lib.ListN.{length, length-append}
 use lib.ListN.{set, take, get_or, length-set}
 use lib.Seq.{take-suc, length-take-le}
-use mathlib.Core.List.{append_assoc, append-nil}
-use native.Mathlib.Nat.{add_assoc}
+use mathlib.Core.List.{append_assoc}
 use Rattle.session_text.specs.Put.{put}
 use Rattle.session_text.proofs.PutLaws.{put_put, put_one, length_put}
 use Rattle.session_text.specs.Text.{decimal_to, hex_of, digit}
