@@ -8,7 +8,7 @@ fn main() {
     let archive = folder.join("libbench_path.a");
     println!("cargo:rerun-if-changed={}", archive.display());
     if !archive.is_file() {
-        eprintln!("{} is missing: build it with `rt staticlib bench_path`", archive.display());
+        eprintln!("{} is missing: build it with `bash tools/build bench_path`", archive.display());
         exit(1);
     }
     println!("cargo:rustc-link-search=native={}", folder.display());

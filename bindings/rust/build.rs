@@ -1,4 +1,4 @@
-//! Finds the engine's archive: the file that UDX_ARCHIVE names, or what `rt staticlib udx_c` leaves in this repository.
+//! Finds the engine's archive: the file that UDX_ARCHIVE names, or what `bash tools/build udx_c` leaves in this repository.
 use std::env;
 use std::path::{Path, PathBuf};
 use std::process::exit;
@@ -10,7 +10,7 @@ fn main() {
     println!("cargo:rerun-if-changed={}", archive.display());
     let Ok(archive) = archive.canonicalize() else {
         eprintln!(
-            "{} is missing: build it with `rt staticlib udx_c`, or name it in UDX_ARCHIVE",
+            "{} is missing: build it with `bash tools/build udx_c`, or name it in UDX_ARCHIVE",
             archive.display()
         );
         exit(1);

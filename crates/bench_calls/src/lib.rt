@@ -1,4 +1,5 @@
-// The calls that bench/ times, as C functions on plain numbers. `numbers` has the order of `stream` and `totals` below.
+// The calls that bench/ times, on plain numbers, as C makes them (crate bench_archive exports them). `numbers` has the order of `stream`
+// and `totals` below.
 #![tactic(auto)]
 
 use error::{Outcome, UdxError};
@@ -90,8 +91,7 @@ pub fn totals(n: &[u64; 24]) -> Totals {
 }
 
 // Refusal 1 on the whole records: returns 1 if they keep the rules.
-#[unsafe(no_mangle)]
-pub extern "C" fn udx_bench_rules(
+pub fn udx_bench_rules(
     numbers: &[u64; 24],
     sent: &[u64; 64],
     held: &[u64; 32],
@@ -104,8 +104,7 @@ pub extern "C" fn udx_bench_rules(
 }
 
 // One write: returns the bytes accepted.
-#[unsafe(no_mangle)]
-pub extern "C" fn udx_bench_write(
+pub fn udx_bench_write(
     numbers: &[u64; 24],
     sent: &mut [u64; 64],
     held: &[u64; 32],
@@ -122,8 +121,7 @@ pub extern "C" fn udx_bench_write(
 }
 
 // One take: returns the bytes put.
-#[unsafe(no_mangle)]
-pub extern "C" fn udx_bench_take(
+pub fn udx_bench_take(
     numbers: &[u64; 24],
     sent: &mut [u64; 64],
     held: &[u64; 32],
@@ -140,8 +138,7 @@ pub extern "C" fn udx_bench_take(
 }
 
 // One delivery: returns 1 if it is accepted.
-#[unsafe(no_mangle)]
-pub extern "C" fn udx_bench_deliver(
+pub fn udx_bench_deliver(
     numbers: &[u64; 24],
     sent: &mut [u64; 64],
     held: &mut [u64; 32],
@@ -177,8 +174,7 @@ pub extern "C" fn udx_bench_deliver(
 }
 
 // One read: returns the bytes put.
-#[unsafe(no_mangle)]
-pub extern "C" fn udx_bench_read(
+pub fn udx_bench_read(
     numbers: &[u64; 24],
     sent: &[u64; 64],
     held: &mut [u64; 32],
@@ -195,8 +191,7 @@ pub extern "C" fn udx_bench_read(
 }
 
 // One drive: returns the entries left to take plus remote acked.
-#[unsafe(no_mangle)]
-pub extern "C" fn udx_bench_drive(
+pub fn udx_bench_drive(
     numbers: &[u64; 24],
     sent: &mut [u64; 64],
     held: &[u64; 32],

@@ -3,18 +3,21 @@
 
 use constants::{HEADER_STORE, INCOMING_STORE, OUTGOING_STORE};
 use drill_turn::{SPARE_HEADERS, SPARE_INCOMING, SPARE_OUTGOING};
-use libc::{STDIN_FILENO, STDOUT_FILENO};
 use session_kept::KEPT_STORE;
 use session_text::LINE;
 use session_turn::{Ends, SCRATCH};
+use std::io;
+use std::io::Write;
 
-fn write_line(line: &[u8], len: usize) {
+fn write_line<W: Write>(out: &mut W, line: &[u8], len: usize) -> io::Result<()> {
     if len <= line.len() {
-        io::write_all(STDOUT_FILENO, &line[0..len]);
+        out.write_all(&line[0..len])?;
     }
+    Ok(())
 }
 
-fn run(
+fn run<W: Write>(
+    out: &mut W,
     fresh: Ends,
     script: &[u8],
     outgoing_0: &mut [u8; OUTGOING_STORE],
@@ -30,7 +33,7 @@ fn run(
     spare_incoming: &mut [u8; SPARE_INCOMING],
     spare_headers: &mut [u8; SPARE_HEADERS],
     line: &mut [u8; LINE],
-) {
+) -> io::Result<()> {
     let mut ends = fresh;
     let mut at: usize = 0;
     while at < script.len() {
@@ -52,14 +55,15 @@ fn run(
             spare_headers,
             line,
         );
-        write_line(line, t.len);
+        write_line(out, line, t.len)?;
         ends = t.ends;
         at = t.next;
     }
+    Ok(())
 }
 
 // Runs a drill on two fresh ends.
-fn drill(script: &[u8]) {
+fn drill<W: Write>(out: &mut W, script: &[u8]) -> io::Result<()> {
     let mut outgoing_0 = [0u8; OUTGOING_STORE];
     let mut incoming_0 = [0u8; INCOMING_STORE];
     let mut headers_0 = [0u8; HEADER_STORE];
@@ -82,6 +86,7 @@ fn drill(script: &[u8]) {
         &headers_1,
     );
     run(
+        out,
         ends,
         script,
         &mut outgoing_0,
@@ -97,13 +102,14 @@ fn drill(script: &[u8]) {
         &mut spare_incoming,
         &mut spare_headers,
         &mut line,
-    );
+    )
 }
 
-fn main() {
+fn main(rt: HostRuntime) -> io::Result<()> {
     let mut input = [0u8; 65_536];
-    let n = io::read_full(STDIN_FILENO, &mut input);
+    let n = program_io::read_full(&mut rt.stdin(), &mut input)?;
     if n <= 65_536 {
-        drill(&input[0..n]);
+        drill(&mut rt.stdout(), &input[0..n])?;
     }
+    Ok(())
 }

@@ -132,7 +132,7 @@ fn call_over(
 
 fn copy_store(store: &[u8], spare: &mut [u8]) {
     if store.len() <= spare.len() {
-        bytes::copy(store, spare);
+        spare[0..store.len()].copy_from_slice(store);
     }
 }
 

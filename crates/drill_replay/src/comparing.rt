@@ -78,7 +78,7 @@ fn goes_on(answer: &[u8], at: usize, line: &[u8], len: usize) -> bool {
         return false;
     }
     let end = at + len;
-    check::same(&answer[at..end], &line[0..len])
+    &answer[at..end] == &line[0..len]
 }
 
 fn differs(lines: u64, at: usize, len: usize) -> Compared {

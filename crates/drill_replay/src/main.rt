@@ -14,14 +14,18 @@ use reporting::{Tally, report};
 use session_kept::KEPT_STORE;
 use session_text::LINE;
 use session_turn::SCRATCH;
+use std::fs::File;
+use std::io;
+use std::io::{Read, Write};
 
 // The most bytes that a script or an answer may have.
 const MOST: usize = 65_536;
 
 // Runs the next script, if there is one, and returns the new tally.
-fn run_next(
+fn run_next<R: Read, W: Write>(
+    from: &mut R,
+    out: &mut W,
     tally: Tally,
-    fd: i32,
     script: &mut [u8; MOST],
     answer: &mut [u8; MOST],
     outgoing_0: &mut [u8; OUTGOING_STORE],
@@ -37,8 +41,8 @@ fn run_next(
     spare_incoming: &mut [u8; SPARE_INCOMING],
     spare_headers: &mut [u8; SPARE_HEADERS],
     line: &mut [u8; LINE],
-) -> Tally {
-    match read_next(fd, script, answer) {
+) -> io::Result<Tally> {
+    match read_next(from, script, answer)? {
         Next::Script {
             kind,
             script: n,
@@ -64,16 +68,17 @@ fn run_next(
                 spare_headers,
                 line,
             );
-            report(tally, c, answer, m, line)
+            report(out, tally, c, answer, m, line)
         }
-        Next::NoMore => reporting::ended(tally, false),
-        Next::Broken => reporting::ended(tally, true),
+        Next::NoMore => Ok(reporting::ended(tally, false)),
+        Next::Broken => Ok(reporting::ended(tally, true)),
     }
 }
 
 // Runs all scripts of the file, a million at most.
-fn run(
-    fd: i32,
+fn run<R: Read, W: Write>(
+    from: &mut R,
+    out: &mut W,
     script: &mut [u8; MOST],
     answer: &mut [u8; MOST],
     outgoing_0: &mut [u8; OUTGOING_STORE],
@@ -89,14 +94,15 @@ fn run(
     spare_incoming: &mut [u8; SPARE_INCOMING],
     spare_headers: &mut [u8; SPARE_HEADERS],
     line: &mut [u8; LINE],
-) -> Tally {
+) -> io::Result<Tally> {
     let mut tally = reporting::start();
     let mut left: u32 = 1_000_000;
     while 0 < left {
         let next = left - 1;
         tally = run_next(
+            from,
+            out,
             tally,
-            fd,
             script,
             answer,
             outgoing_0,
@@ -112,21 +118,21 @@ fn run(
             spare_incoming,
             spare_headers,
             line,
-        );
+        )?;
         if tally.ended {
-            return tally;
+            return Ok(tally);
         }
         left = next;
     }
-    tally
+    Ok(tally)
 }
 
-fn main() {
-    let fd = os::open_read(b"scripts.bin");
-    if fd < 0 {
-        os::fail(b"scripts.bin");
-        return;
-    }
+fn main(rt: HostRuntime) -> io::Result<()> {
+    let mut from = match File::open(&rt, "scripts.bin") {
+        Ok(file) => file,
+        Err(e) => return eprintln!(rt; "scripts.bin: {e}"),
+    };
+    let mut out = rt.stdout();
     let mut script = [0u8; MOST];
     let mut answer = [0u8; MOST];
     let mut outgoing_0 = [0u8; OUTGOING_STORE];
@@ -143,7 +149,8 @@ fn main() {
     let mut spare_headers = [0u8; SPARE_HEADERS];
     let mut line = [0u8; LINE];
     let tally = run(
-        fd,
+        &mut from,
+        &mut out,
         &mut script,
         &mut answer,
         &mut outgoing_0,
@@ -159,6 +166,6 @@ fn main() {
         &mut spare_incoming,
         &mut spare_headers,
         &mut line,
-    );
-    reporting::summary(tally);
+    )?;
+    reporting::summary(&mut out, tally)
 }

@@ -1,4 +1,7 @@
 // Reads the next script of the file.
+use program_io::read_full;
+use std::io;
+use std::io::Read;
 
 // The script's kind, its length and its answer's length; or why there is none.
 #[derive(Clone, Copy)]
@@ -12,39 +15,45 @@ pub enum Next {
     Broken,
 }
 
-fn read_part(fd: i32, buf: &mut [u8], n: usize) -> bool {
+fn read_part<R: Read>(from: &mut R, buf: &mut [u8], n: usize) -> io::Result<bool> {
     if n <= buf.len() {
-        return io::read_full(fd, &mut buf[0..n]) == n;
+        return Ok(read_full(from, &mut buf[0..n])? == n);
     }
-    false
+    Ok(false)
 }
 
-fn read_both(fd: i32, script: &mut [u8], n: usize, answer: &mut [u8], m: usize) -> bool {
-    if read_part(fd, script, n) {
-        return read_part(fd, answer, m);
+fn read_both<R: Read>(
+    from: &mut R,
+    script: &mut [u8],
+    n: usize,
+    answer: &mut [u8],
+    m: usize,
+) -> io::Result<bool> {
+    if read_part(from, script, n)? {
+        return read_part(from, answer, m);
     }
-    false
+    Ok(false)
 }
 
 // Reads the script and the answer into the start of their buffers.
-pub fn read_next(fd: i32, script: &mut [u8], answer: &mut [u8]) -> Next {
+pub fn read_next<R: Read>(from: &mut R, script: &mut [u8], answer: &mut [u8]) -> io::Result<Next> {
     let mut head = [0u8; 9];
-    let got = io::read_full(fd, &mut head);
+    let got = read_full(from, &mut head)?;
     if got == 0 {
-        return Next::NoMore;
+        return Ok(Next::NoMore);
     }
     if got != 9 {
-        return Next::Broken;
+        return Ok(Next::Broken);
     }
     let kind = head[0];
     let n = session_script::u32_at(&head, 1) as usize;
     let m = session_script::u32_at(&head, 5) as usize;
-    if read_both(fd, script, n, answer, m) {
-        return Next::Script {
+    if read_both(from, script, n, answer, m)? {
+        return Ok(Next::Script {
             kind,
             script: n,
             answer: m,
-        };
+        });
     }
-    Next::Broken
+    Ok(Next::Broken)
 }

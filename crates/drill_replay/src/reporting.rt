@@ -1,6 +1,7 @@
 // What the run prints.
 use crate::comparing::{Compared, front};
-use libc::STDOUT_FILENO;
+use std::io;
+use std::io::Write;
 
 #[derive(Clone, Copy)]
 pub struct Tally {
@@ -21,12 +22,12 @@ pub fn start() -> Tally {
     }
 }
 
-fn print(text: &[u8]) {
-    io::write_all(STDOUT_FILENO, text);
+fn print<W: Write>(out: &mut W, text: &[u8]) -> io::Result<()> {
+    out.write_all(text)
 }
 
-fn print_number(n: u64) {
-    io::print_decimal(STDOUT_FILENO, n);
+fn print_number<W: Write>(out: &mut W, n: u64) -> io::Result<()> {
+    write!(out, "{n}")
 }
 
 // The line that starts at `at`, without its newline; empty if it has none.
@@ -42,40 +43,54 @@ fn line_at(answer: &[u8], at: usize) -> &[u8] {
 }
 
 // Prints the first difference: its script and line, both counted from 1, and the line recorded and put.
-fn print_difference(number: u64, c: Compared, answer: &[u8], line: &[u8]) {
-    print(b"script ");
-    print_number(number);
-    print(b", line ");
-    print_number(std::num::wrapping_add_u64(c.lines, 1));
-    print(b"\n  recorded: ");
-    print(line_at(answer, c.at));
-    print(b"\n  put:      ");
-    print(front(line, c.len));
+fn print_difference<W: Write>(
+    out: &mut W,
+    number: u64,
+    c: Compared,
+    answer: &[u8],
+    line: &[u8],
+) -> io::Result<()> {
+    print(out, b"script ")?;
+    print_number(out, number)?;
+    print(out, b", line ")?;
+    print_number(out, std::num::wrapping_add_u64(c.lines, 1))?;
+    print(out, b"\n  recorded: ")?;
+    print(out, line_at(answer, c.at))?;
+    print(out, b"\n  put:      ")?;
+    print(out, front(line, c.len))?;
     if c.len == 0 {
-        print(b"\n");
+        print(out, b"\n")?;
     }
+    Ok(())
 }
 
 // Counts one more script, and prints the first difference.
-pub fn report(t: Tally, c: Compared, answer: &[u8], m: usize, line: &[u8]) -> Tally {
+pub fn report<W: Write>(
+    out: &mut W,
+    t: Tally,
+    c: Compared,
+    answer: &[u8],
+    m: usize,
+    line: &[u8],
+) -> io::Result<Tally> {
     if c.same {
-        return Tally {
+        return Ok(Tally {
             same: std::num::wrapping_add_u64(t.same, 1),
             differ: t.differ,
             ended: t.ended,
             broken: t.broken,
-        };
+        });
     }
     if t.differ == 0 {
         let number = std::num::wrapping_add_u64(t.same, 1);
-        print_difference(number, c, front(answer, m), line);
+        print_difference(out, number, c, front(answer, m), line)?;
     }
-    Tally {
+    Ok(Tally {
         same: t.same,
         differ: std::num::wrapping_add_u64(t.differ, 1),
         ended: t.ended,
         broken: t.broken,
-    }
+    })
 }
 
 // The tally at the end of the file.
@@ -89,12 +104,13 @@ pub fn ended(t: Tally, broken: bool) -> Tally {
 }
 
 // `N same, M differ`
-pub fn summary(t: Tally) {
-    print_number(t.same);
-    print(b" same, ");
-    print_number(t.differ);
-    print(b" differ\n");
+pub fn summary<W: Write>(out: &mut W, t: Tally) -> io::Result<()> {
+    print_number(out, t.same)?;
+    print(out, b" same, ")?;
+    print_number(out, t.differ)?;
+    print(out, b" differ\n")?;
     if t.broken {
-        print(b"the file ends in the middle of a script\n");
+        print(out, b"the file ends in the middle of a script\n")?;
     }
+    Ok(())
 }

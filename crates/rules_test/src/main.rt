@@ -8,9 +8,10 @@
 
 ghost use Rattle.std.specs.Prelude.{◌+◌, ◌≤◌, length};
 
-use libc::{STDIN_FILENO, STDOUT_FILENO};
 use records::{Clocks, Queue, Receiver, Sender, Stream, Timing, Totals};
 use rtt::{Nanos, Rtt};
+use std::io;
+use std::io::{Read, Write};
 
 #[derive(Clone, Copy)]
 struct Records {
@@ -162,19 +163,20 @@ fn kept(r: Records) -> bool {
     rules_stream::ok_stream(r.stream, r.totals, &sent, &held, &queue)
 }
 
-fn say(r: Records) {
+fn say<W: Write>(out: &mut W, r: Records) -> io::Result<()> {
     if kept(r) {
-        io::write_all(STDOUT_FILENO, b" kept\n");
+        out.write_all(b" kept\n")
     } else {
-        io::write_all(STDOUT_FILENO, b" broken\n");
+        out.write_all(b" broken\n")
     }
 }
 
-fn print(text: &[u8], size: u8) {
+fn print<W: Write>(out: &mut W, text: &[u8], size: u8) -> io::Result<()> {
     let n = size as usize;
     if n <= text.len() {
-        io::write_all(STDOUT_FILENO, &text[0..n]);
+        out.write_all(&text[0..n])?;
     }
+    Ok(())
 }
 
 fn byte(b: u8) -> u64
@@ -194,33 +196,40 @@ fn value(s: &[u8]) -> u64 {
 }
 
 // Runs one command.
-fn step(t: Tester, clean: Records, op: u8, index: u8, operand: &[u8]) -> Tester {
+fn step<W: Write>(
+    out: &mut W,
+    t: Tester,
+    clean: Records,
+    op: u8,
+    index: u8,
+    operand: &[u8],
+) -> io::Result<Tester> {
     let now = t.now;
     let kept = t.kept;
     if op == 0 {
-        return Tester { now: clean, kept };
+        return Ok(Tester { now: clean, kept });
     }
     if op == 1 {
-        return Tester { now, kept: now };
+        return Ok(Tester { now, kept: now });
     }
     if op == 2 {
-        return Tester { now: kept, kept };
+        return Ok(Tester { now: kept, kept });
     }
     if op == 3 {
-        say(now);
-        return t;
+        say(out, now)?;
+        return Ok(t);
     }
     if op == 4 {
-        print(operand, index);
-        return t;
+        print(out, operand, index)?;
+        return Ok(t);
     }
-    Tester {
+    Ok(Tester {
         now: put(now, op, index, value(operand)),
         kept,
-    }
+    })
 }
 
-fn run(input: &[u8], clean: Records) {
+fn run<W: Write>(out: &mut W, input: &[u8], clean: Records) -> io::Result<()> {
     let mut t = Tester {
         now: clean,
         kept: clean,
@@ -228,28 +237,30 @@ fn run(input: &[u8], clean: Records) {
     let mut at: usize = 0;
     while at < input.len() {
         if input.len() - at < 10 {
-            return;
+            return Ok(());
         }
         let from = at + 2;
         let next = at + 10;
         let operand = &input[from..next];
-        t = step(t, clean, input[at], input[at + 1], operand);
+        t = step(out, t, clean, input[at], input[at + 1], operand)?;
         at = next;
     }
+    Ok(())
 }
 
-fn fill(input: &mut [u8]) -> usize {
-    io::read_full(STDIN_FILENO, input)
+fn fill<R: Read>(from: &mut R, input: &mut [u8]) -> io::Result<usize> {
+    program_io::read_full(from, input)
 }
 
-fn main() {
+fn main(rt: HostRuntime) -> io::Result<()> {
     let mut input = [0u8; 65_536];
-    let n = fill(&mut input);
+    let n = fill(&mut rt.stdin(), &mut input)?;
     let outgoing = [0u8; 44_800];
     let incoming = [0u8; 44_160];
     let headers = [0u8; 1_280];
     let clean = fresh(&outgoing, &incoming, &headers);
     if n <= 65_536 {
-        run(&input[0..n], clean);
+        run(&mut rt.stdout(), &input[0..n], clean)?;
     }
+    Ok(())
 }

@@ -2,18 +2,21 @@
 #![tactic(auto)]
 
 use constants::{HEADER_STORE, INCOMING_STORE, OUTGOING_STORE};
-use libc::{STDIN_FILENO, STDOUT_FILENO};
 use session_kept::KEPT_STORE;
 use session_text::LINE;
 use session_turn::{Ends, SCRATCH};
+use std::io;
+use std::io::Write;
 
-fn write_line(line: &[u8], len: usize) {
+fn write_line<W: Write>(out: &mut W, line: &[u8], len: usize) -> io::Result<()> {
     if len <= line.len() {
-        io::write_all(STDOUT_FILENO, &line[0..len]);
+        out.write_all(&line[0..len])?;
     }
+    Ok(())
 }
 
-fn run(
+fn run<W: Write>(
+    out: &mut W,
     fresh: Ends,
     script: &[u8],
     outgoing_0: &mut [u8; OUTGOING_STORE],
@@ -26,7 +29,7 @@ fn run(
     kept_1: &mut [u8; KEPT_STORE],
     scratch: &mut [u8; SCRATCH],
     line: &mut [u8; LINE],
-) {
+) -> io::Result<()> {
     let mut ends = fresh;
     let mut at: usize = 0;
     while at < script.len() {
@@ -34,15 +37,16 @@ fn run(
             ends, script, at, outgoing_0, incoming_0, headers_0, kept_0, outgoing_1, incoming_1,
             headers_1, kept_1, scratch, line,
         );
-        write_line(line, t.len);
+        write_line(out, line, t.len)?;
         ends = t.ends;
         at = t.next;
     }
+    Ok(())
 }
 
-fn main() {
+fn main(rt: HostRuntime) -> io::Result<()> {
     let mut input = [0u8; 65_536];
-    let n = io::read_full(STDIN_FILENO, &mut input);
+    let n = program_io::read_full(&mut rt.stdin(), &mut input)?;
     let mut outgoing_0 = [0u8; OUTGOING_STORE];
     let mut incoming_0 = [0u8; INCOMING_STORE];
     let mut headers_0 = [0u8; HEADER_STORE];
@@ -63,6 +67,7 @@ fn main() {
     );
     if n <= 65_536 {
         run(
+            &mut rt.stdout(),
             ends,
             &input[0..n],
             &mut outgoing_0,
@@ -75,6 +80,7 @@ fn main() {
             &mut kept_1,
             &mut scratch,
             &mut line,
-        );
+        )?;
     }
+    Ok(())
 }

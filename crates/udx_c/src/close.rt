@@ -8,8 +8,7 @@ use udx_c_numbers::{
     FlatStep, FlatStream, FlatTotals, broken_step, flat_step, strange, stream_of, totals_of,
 };
 
-#[unsafe(no_mangle)]
-pub extern "C" fn udx_close(
+pub fn udx_close(
     stream: FlatStream,
     totals: FlatTotals,
     sent: &[u64; 64],

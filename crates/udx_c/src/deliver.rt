@@ -9,8 +9,7 @@ use udx_c_numbers::{
     FlatStep, FlatStream, FlatTotals, broken_step, flat_step, strange, stream_of, totals_of,
 };
 
-#[unsafe(no_mangle)]
-pub extern "C" fn udx_deliver(
+pub fn udx_deliver(
     stream: FlatStream,
     totals: FlatTotals,
     sent: &mut [u64; 64],

@@ -27,8 +27,7 @@ pub struct FlatDecoded {
 }
 
 // Returns 0, or the refusal's number.
-#[unsafe(no_mangle)]
-pub extern "C" fn udx_encode(header: FlatHeader, buf: &mut [u8]) -> u8
+pub fn udx_encode(header: FlatHeader, buf: &mut [u8]) -> u8
     ensures { FlatEncodes header buf.old buf.new result }
 {
     let h = Header {
@@ -42,8 +41,7 @@ pub extern "C" fn udx_encode(header: FlatHeader, buf: &mut [u8]) -> u8
     refusal_byte(h.encode(buf))
 }
 
-#[unsafe(no_mangle)]
-pub extern "C" fn udx_decode(buf: &[u8]) -> FlatDecoded
+pub fn udx_decode(buf: &[u8]) -> FlatDecoded
     ensures { result ≡ flat_decoded (decoded buf.now) }
 {
     match Header::from_bytes(buf) {

@@ -14,8 +14,7 @@ pub struct Numbers {
 }
 
 // The fields of a stream in order, as received.
-#[unsafe(no_mangle)]
-pub extern "C" fn udx_layout_stream(s: FlatStream) -> Numbers
+pub fn udx_layout_stream(s: FlatStream) -> Numbers
     ensures { result.n ≡ stream_fields s }
 {
     let i = s.ids;
@@ -56,8 +55,7 @@ pub extern "C" fn udx_layout_stream(s: FlatStream) -> Numbers
 }
 
 // The same for totals, after a stream; the numbers past them are 0.
-#[unsafe(no_mangle)]
-pub extern "C" fn udx_layout_totals(s: FlatStream, t: FlatTotals) -> Numbers
+pub fn udx_layout_totals(s: FlatStream, t: FlatTotals) -> Numbers
     ensures { result.n ≡ totals_fields t ++ replicate 18 0 }
 {
     Numbers {
@@ -155,8 +153,7 @@ fn counted_stream() -> FlatStream
 }
 
 // A step whose fields are 1, 2, 3 and so on, in order.
-#[unsafe(no_mangle)]
-pub extern "C" fn udx_layout_step() -> FlatStep
+pub fn udx_layout_step() -> FlatStep
     ensures { step_fields result ≡ count_from 34 1 }
 {
     let stream = counted_stream();

@@ -1,5 +1,5 @@
-// What C and Rust link: every call of udx as a C function. Structs of plain numbers are passed and returned by value, words and stores are
-// lent as they are, enums are numbers. include/udx.h declares all of it.
+// The calls as C and Rust make them: structs of plain numbers are passed and returned by value, words and stores are lent as they are,
+// enums are numbers. include/udx.h declares all of it, and crate udx_archive exports each function under its name and contract.
 //
 // The caller may pass any numbers: a byte that is not a valid error, close state or flag is a broken record, and the call answers
 // refusal 1.

@@ -37,8 +37,7 @@ fn flat_part(p: Part) -> FlatPart
     }
 }
 
-#[unsafe(no_mangle)]
-pub extern "C" fn udx_look(
+pub fn udx_look(
     stream: FlatStream,
     totals: FlatTotals,
     sent: &[u64; 64],

@@ -4,8 +4,7 @@ ghost use Rattle.udx_c.specs.Crosses.{FlatOpens};
 use rtt::Nanos;
 use udx_c_numbers::{FlatStep, flat_opened};
 
-#[unsafe(no_mangle)]
-pub extern "C" fn udx_open(
+pub fn udx_open(
     local: u32,
     remote: u32,
     segments: u8,

@@ -9,8 +9,7 @@ use udx_c_numbers::{
     FlatStep, FlatStream, FlatTotals, broken_step, flat_step, strange, stream_of, totals_of,
 };
 
-#[unsafe(no_mangle)]
-pub extern "C" fn udx_read(
+pub fn udx_read(
     stream: FlatStream,
     totals: FlatTotals,
     sent: &[u64; 64],

@@ -8,8 +8,7 @@ use udx_c_numbers::{
     FlatStep, FlatStream, FlatTotals, broken_step, flat_step, strange, stream_of, totals_of,
 };
 
-#[unsafe(no_mangle)]
-pub extern "C" fn udx_write(
+pub fn udx_write(
     stream: FlatStream,
     totals: FlatTotals,
     sent: &mut [u64; 64],
