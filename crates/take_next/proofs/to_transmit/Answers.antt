@@ -17,7 +17,7 @@ transmit-p-requires c =
 pub loop-i-preserved : goal.loop-i-preserved
 loop-i-preserved c =
     again _ _ _ _ _ _ _ _ _ _ _ _ _ c.loop-i.invariant c.loop-i-test.true _ _ _
-    (rw c.left_entry-x.ensures at c.transmit-p.ensures) c.transmit-p.auto.1.1.1.1.1.1.1.0
+    (rw c.left_entry-x.ensures at c.transmit-p.ensures) c.transmit-p.auto.buf
 
 pub returns : goal.returns
 returns c = ends _ _ _ _ _ _ _ _ _ _ _ _ _ c.loop-i.invariant c.loop-i-test.false
