@@ -1,0 +1,7 @@
+-- `drive_all::poll::poll_drive` meets its contract: the parts one after another.
+use borrow.Author.Rules.{rules}
+use Rattle.drive_all.proofs.Whole.{polls}
+use Rattle.drive_all.proofs.poll.poll_drive.Goals as goal
+
+pub returns : goal.returns
+returns c = polls c.before_flush-b.ensures c.flush-stream.ensures
