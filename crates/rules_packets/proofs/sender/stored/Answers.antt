@@ -18,7 +18,7 @@ loop-n-preserved-then-kept c =
     (sym kept ∙ c.if-kept.true)
     c.pick32.ensures
     (omega (arith, c.pick32.type_inv))
-    (omega (arith, c.struct_known-then-kept-1.given))
+    (omega arith)
 
 pub returns-then-here : goal.returns-then-here
 returns-then-here c =
