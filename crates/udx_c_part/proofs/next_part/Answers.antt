@@ -8,12 +8,6 @@ use Rattle.take_entry.proofs.TakeOne.{test_there}
 use Rattle.udx_c_part.proofs.NextPart.{Searching, starts, none_there, state_there, packet_there, packet_gone}
 use Rattle.udx_c_part.proofs.next_part.Goals as goal
 
-found : (c : tie.After-there invariant-loop decreases-loop)
-    → let a = c.before.before.before.before.before.before.before.before.before.args in is_there a.s a.sent.now c.before.before.before.left-entry.result.number ≡ c.there.result
-found c =
-    let a = c.before.before.before.before.before.before.before.before.before.args in
-    test_there a.s a.sent.now [] c.before.before.before.left-entry.result.number c.before.get-sent.result c.there.result c.before.get-sent.ensures c.there.ensures
-
 pub returns-then-x : goal.returns-then-x
 returns-then-x c =
     rw c.header_part.ensures (state_there _ _ _ _ _ c.loop-n.invariant c.loop-n-test.true (rw c.left_entry-x.ensures at c.if-x.true))
@@ -22,12 +16,12 @@ pub returns-then-there : goal.returns-then-there
 returns-then-there c =
     let e = c.left_entry-x.ensures in
     rw (c.packet_part.ensures, c.get_sent-p.ensures, e)
-    (packet_there _ _ _ _ _ c.loop-n.invariant c.loop-n-test.true (rw e at c.if-x.false) (rw e at (found c ∙ c.if-there.true)))
+    (packet_there _ _ _ _ _ c.loop-n.invariant c.loop-n-test.true (rw e at c.if-x.false) (rw e at (test_there c.args.s c.args.sent.now [] c.left_entry-x.result.number c.get_sent-p.result c.there.result c.get_sent-p.ensures c.there.ensures ∙ c.if-there.true)))
 
 pub loop-n-preserved : goal.loop-n-preserved
 loop-n-preserved c =
     let e = c.left_entry-x.ensures in
-    packet_gone _ _ _ _ _ c.loop-n.invariant c.loop-n-test.true (rw e at c.if-x.false) (rw e at (found c ∙ c.if-there.false))
+    packet_gone _ _ _ _ _ c.loop-n.invariant c.loop-n-test.true (rw e at c.if-x.false) (rw e at (test_there c.args.s c.args.sent.now [] c.left_entry-x.result.number c.get_sent-p.result c.there.result c.get_sent-p.ensures c.there.ensures ∙ c.if-there.false))
 
 pub returns : goal.returns
 returns c = rw c.no_part.ensures (none_there _ _ _ _ _ c.loop-n.invariant c.loop-n-test.false)
