@@ -69,7 +69,8 @@ entries_back (model.state b ∷ q) pre rest place h e =
     let next : length (pre ++ b) ≡ suc place * header_slot = length-append pre b ∙ rw (e, h.0, head_is) (omega arith) in
     let one : pre ++ ((b ++ headers_for q) ++ rest) ≡ pre ++ (b ++ (headers_for q ++ rest)) = ap (λ (z : Bytes). pre ++ z) (append_assoc b (headers_for q) rest) in
     let two : pre ++ (b ++ (headers_for q ++ rest)) ≡ (pre ++ b) ++ (headers_for q ++ rest) = sym (append_assoc pre b (headers_for q ++ rest)) in
-    rw (back, one)
+    ap (λ (z : Bytes). seen_entries z place (words_for (model.state b ∷ q))) one
+    ∙ rw back
     (ap₂ (λ (y : Bytes) (ys : List model.Entry). model.state y ∷ ys) (cut_at pre b (headers_for q ++ rest) place e h.0)
     (ap (λ (z : Bytes). seen_entries z (suc place) (words_for q)) two ∙ entries_back q (pre ++ b) rest (suc place) h.1 next))
 entries_back (model.packet n l ∷ q) pre rest place h e =
