@@ -132,6 +132,7 @@ outcome_among false e n h = error_among e.ending.error n h
 
 one_among : (n : ℕ) → Memᴰ n (1 ∷ []) → Memᴰ n (1 ∷ 14 ∷ 15 ∷ 16 ∷ [])
 one_among n (Memᴰ.head e) = Memᴰ.head e
+one_among n (Memᴰ.tail further) = elim further [ ]
 
 read_no_other : (room : ℕ) (e : End) → NoOther (1 ∷ 14 ∷ 15 ∷ 16 ∷ []) (read room e).outcome
 unfolding read read_refusal gate
