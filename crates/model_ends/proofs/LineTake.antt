@@ -10,11 +10,11 @@ use mathlib.Core.Bool.{cond}
 use lib.Dec.{ltb, eqb}
 use borrow.Author.Tests.{eqb-true}
 use lib.ListN.{length, length-append}
-use Rattle.model.specs.Lists.{Bytes, joined, cut, on}
+use Rattle.model.specs.Lists.{Bytes, joined, on}
 use Rattle.model.specs.Slots.{get}
 use Rattle.model.specs.Stream.{Packet, Entry, state, packet, End, with_sender}
 use Rattle.model.specs.Answers.{Answer}
-use Rattle.model.specs.Driving.{remarked, entry_length, head_length, same_length, batch, taken_marks, Taken, take_entry, with_entries, take_loop, take_refusal, segment_of, take_answer, take, whole, datagrams_of}
+use Rattle.model.specs.Driving.{remarked, entry_length, head_length, same_length, batch, taken_marks, Taken, take_entry, with_entries, take_loop, take_refusal, segment_of, take_answer, take, datagrams_of}
 use Rattle.model.specs.Calls.{take_call}
 use Rattle.model_ends.specs.TwoEnds.{History, noted}
 use Rattle.model.proofs.Lists.{All, all_append, all_map, by-test}

@@ -3,8 +3,6 @@
 -- unchanged. A state packet fills its piece.
 use Rattle.std.specs.Prelude.{◌≡◌, ℕ, ◌-◌, ◌<◌, List, slice_index}
 use Rattle.model.specs.Slots.{ceiling}
-use Rattle.records_words.specs.declared.Sent.{Sent}
-use Rattle.records_words.specs.declared.Held.{Held}
 use Rattle.records_words.specs.Words.{sent_in, held_of}
 use Rattle.records.specs.Cut.{beyond, outgoing_slot, incoming_slot}
 use Rattle.records.specs.Seen.{Lent}

@@ -8,7 +8,6 @@ use Rattle.model.specs.Stream as model
 use Rattle.model.specs.Rules.{states}
 use Rattle.records_words.specs.declared.Sent.{Sent}
 use Rattle.records_words.specs.declared.Held.{Held}
-use Rattle.records_words.specs.declared.Entry.{Entry}
 use Rattle.records.specs.declared.Sender.{Sender}
 use Rattle.records.specs.declared.Receiver.{Receiver}
 use Rattle.records.specs.declared.Queue.{Queue}

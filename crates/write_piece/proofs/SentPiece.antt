@@ -11,7 +11,6 @@ use Rattle.model.specs.Sending.{new_marks, pushed, count_sent, send_data_packet}
 use Rattle.records_words.specs.declared.Sent.{Sent}
 use Rattle.records.specs.declared.Sender.{Sender}
 use Rattle.records.specs.declared.Queue.{Queue}
-use Rattle.records.specs.declared.Totals.{Totals}
 use Rattle.records.specs.declared.Stream.{Stream}
 use Rattle.records_words.specs.Words.{sent_of, sent_word, sent_time, entry_of, entry_word}
 use Rattle.records.specs.Cut.{beyond, outgoing_slot}

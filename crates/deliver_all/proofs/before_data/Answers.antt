@@ -1,7 +1,5 @@
 -- `deliver_all::before_data` meets its contract: the parts one after another.
-use Rattle.deliver_all.proofs.Whole.{begins, queue_same}
-use mathlib.Core.Path.{sym, ap, subst}
-use borrow.Author.Rules.{rules}
+use Rattle.deliver_all.proofs.Whole.{begins}
 use Rattle.deliver_all.proofs.before_data.Goals as goal
 
 pub returns : goal.returns

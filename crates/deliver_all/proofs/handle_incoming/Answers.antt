@@ -1,7 +1,5 @@
 -- `deliver_all::handle_incoming` meets its contract: the parts one after another.
-use Rattle.deliver_all.proofs.Whole.{data_able, data_takes, handles}
-use mathlib.Core.Path.{sym, ◌∙◌}
-use borrow.Author.Rules.{rules}
+use Rattle.deliver_all.proofs.Whole.{handles}
 use Rattle.deliver_all.proofs.handle_incoming.Goals as goal
 
 pub returns : goal.returns

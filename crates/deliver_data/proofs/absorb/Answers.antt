@@ -1,6 +1,5 @@
 -- `deliver_data::absorb` meets its contract: DATA below ack is not held, other DATA is; then ack moves. One law for each case combines what
 -- the calls ensure.
-use borrow.Author.Rules.{rules}
 use Rattle.deliver_data.proofs.AbsorbLaws.{absorbs_old, absorbs_new}
 use Rattle.deliver_data.proofs.absorb.Goals as goal
 

@@ -1,8 +1,6 @@
 -- `deliver_data::clear_gap` meets its contract. The loop's invariant is `Clearing`, up to the larger of top and n; the distance to n falls.
-use borrow.Author.Rules.{rules}
-use Prim.Native.Nat.{◌-◌, ◌≤◌, max}
 use native.Mathlib.Omega.{arith}
-use Rattle.deliver_data.proofs.AbsorbLaws.{Clearing, clear_starts, clear_turn, clear_ends}
+use Rattle.deliver_data.proofs.AbsorbLaws.{clear_turn}
 use Rattle.deliver_data.proofs.clear_gap.Goals as goal
 
 pub loop-m-preserved : goal.loop-m-preserved

@@ -1,7 +1,5 @@
-use borrow.Author.Rules.{rules}
 use Prim.Native.Nat.{◌-◌, ◌≤◌, max}
-use native.Mathlib.Omega.{arith}
-use Rattle.deliver_data.proofs.AbsorbLaws.{Clearing, clear_starts, clear_turn, clear_ends}
+use Rattle.deliver_data.proofs.AbsorbLaws.{Clearing}
 use Rattle.deliver_data.proofs.clear_gap.Given as goal
 
 abbrev pub invariant-loop-m : goal.invariant-loop-m

@@ -1,9 +1,7 @@
 -- `deliver_data::in_order` meets its contract. The loop's invariant is `Advancing`: the model's steps left from here give its whole result.
 -- The distance to top falls.
-use borrow.Author.Rules.{rules}
-use Prim.Native.Nat.{◌-◌}
 use mathlib.Core.Path.{sym, ◌∙◌}
-use Rattle.deliver_data.proofs.AbsorbLaws.{Advancing, advance_starts, advance_turn, advance_at_gap, advance_at_top}
+use Rattle.deliver_data.proofs.AbsorbLaws.{advance_turn, advance_at_gap, advance_at_top}
 use Rattle.deliver_data.proofs.in_order.Goals as goal
 
 pub loop-s-preserved : goal.loop-s-preserved

@@ -1,7 +1,5 @@
-use borrow.Author.Rules.{rules}
 use Prim.Native.Nat.{◌-◌}
-use mathlib.Core.Path.{sym, ◌∙◌}
-use Rattle.deliver_data.proofs.AbsorbLaws.{Advancing, advance_starts, advance_turn, advance_at_gap, advance_at_top}
+use Rattle.deliver_data.proofs.AbsorbLaws.{Advancing}
 use Rattle.deliver_data.proofs.in_order.Given as goal
 
 abbrev pub invariant-loop-s : goal.invariant-loop-s

@@ -1,7 +1,6 @@
 -- `deliver_parts::on_data` meets its contract: DATA is held and a state packet queued, and without DATA nothing changes.
 use Rattle.deliver_parts.proofs.Parts.{took, not_taken}
 use mathlib.Core.Path.{sym, ◌∙◌}
-use borrow.Author.Rules.{rules}
 use Rattle.deliver_parts.proofs.on_data.Goals as goal
 
 pub returns-then-is_data : goal.returns-then-is_data

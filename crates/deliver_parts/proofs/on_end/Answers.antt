@@ -1,7 +1,6 @@
 -- `deliver_parts::on_end` meets its contract: END terminates, and without it nothing changes.
 use Rattle.deliver_parts.proofs.Parts.{ended, not_ended}
 use mathlib.Core.Path.{sym, ◌∙◌}
-use borrow.Author.Rules.{rules}
 use Rattle.deliver_parts.proofs.on_end.Goals as goal
 
 pub returns-then-is_end : goal.returns-then-is_end

@@ -1,7 +1,6 @@
 -- `deliver_parts::on_sack` meets its contract: SACK acks every block, and without it nothing changes.
 use Rattle.deliver_parts.proofs.Parts.{sacked, unsacked}
 use mathlib.Core.Path.{sym, ◌∙◌}
-use borrow.Author.Rules.{rules}
 use Rattle.deliver_parts.proofs.on_sack.Goals as goal
 
 pub returns-then-is_sack : goal.returns-then-is_sack

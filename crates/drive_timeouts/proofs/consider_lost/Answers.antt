@@ -1,5 +1,4 @@
 -- `drive_timeouts::consider_lost` meets its contract: the timer, the window, and the pass over the packets.
-use borrow.Author.Rules.{rules}
 use Rattle.drive_timeouts.proofs.TimeOut.{shrunk_stored, loses}
 use Rattle.drive_timeouts.proofs.consider_lost.Goals as goal
 

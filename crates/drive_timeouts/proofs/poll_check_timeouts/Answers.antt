@@ -1,8 +1,7 @@
 -- `drive_timeouts::poll_check_timeouts` meets its contract: not due, all packets lost, or one failed.
 use mathlib.Core.Path.{subst}
-use borrow.Author.Rules.{rules}
 use Rattle.drive_timer.specs.Timer.{IsDue}
-use Rattle.drive_timeouts.proofs.TimeOut.{lost_able, checks_nothing, checks_lost, checks_failed}
+use Rattle.drive_timeouts.proofs.TimeOut.{checks_nothing, checks_lost, checks_failed}
 use Rattle.drive_timeouts.proofs.poll_check_timeouts.Goals as goal
 
 pub returns-then-lost : goal.returns-then-lost

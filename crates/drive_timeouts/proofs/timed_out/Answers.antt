@@ -1,5 +1,4 @@
 -- `drive_timeouts::timed_out` meets its contract: the law of `terminate`.
-use borrow.Author.Rules.{rules}
 use Rattle.drive_timeouts.proofs.TimeOut.{times_out}
 use Rattle.drive_timeouts.proofs.timed_out.Goals as goal
 

@@ -1,6 +1,5 @@
 -- `read_bytes::put_next` meets its contract: the store's bytes from the packet's read offset on are those left to read.
-use borrow.Author.Rules.{rules}
-use Rattle.read_bytes.proofs.ReadLaws.{next_room, next_put}
+use Rattle.read_bytes.proofs.ReadLaws.{next_put}
 use Rattle.read_bytes.proofs.put_next.Goals as goal
 
 pub returns : goal.returns

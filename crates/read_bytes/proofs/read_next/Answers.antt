@@ -1,11 +1,8 @@
 -- `read_bytes::read_next` meets its contract. The loop's invariant is `Going`, with the buffer's length; the distance to top falls. The
 -- turn and each exit have one law, which combines what the calls and tests say.
 use borrow.Author.Rules.{rules}
-use Prim.Native.Nat.{◌-◌}
-use native.Mathlib.Omega.{arith}
-use mathlib.Core.Path.{◌≡◌, refl, sym, ◌∙◌}
-use lib.ListN.{length}
-use Rattle.read_bytes.proofs.ReadLaws.{Going, read_starts, read_turn, read_part, read_at_gap, read_at_top}
+use mathlib.Core.Path.{refl, sym, ◌∙◌}
+use Rattle.read_bytes.proofs.ReadLaws.{read_starts, read_turn, read_part, read_at_gap, read_at_top}
 use Rattle.read_bytes.proofs.read_next.Goals as goal
 
 pub loop-s-init : goal.loop-s-init

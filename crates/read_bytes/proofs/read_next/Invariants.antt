@@ -1,10 +1,7 @@
-use borrow.Author.Rules.{rules}
 use Prim.Native.Nat.{◌-◌}
-use native.Mathlib.Omega.{arith}
-use mathlib.Core.Path.{◌≡◌, refl, sym, ◌∙◌}
+use mathlib.Core.Path.{◌≡◌}
 use lib.ListN.{length}
-use Rattle.read_bytes.specs.Reading.{Fit}
-use Rattle.read_bytes.proofs.ReadLaws.{Going, read_starts, read_fits, read_turn, read_part, read_at_gap, read_at_top}
+use Rattle.read_bytes.proofs.ReadLaws.{Going}
 use Rattle.read_bytes.proofs.read_next.Given as goal
 
 abbrev pub invariant-loop-s : goal.invariant-loop-s

@@ -1,6 +1,5 @@
 -- `records_stores::put_at` meets its contract: the bytes are at their place, and the others are unchanged.
 use Rattle.records_stores.proofs.PutLaws.{of_copied}
-use borrow.Author.Rules.{rules}
 use Rattle.records_stores.proofs.put_at.Goals as goal
 
 pub returns : goal.returns

@@ -1,6 +1,5 @@
 -- `records_stores::put_both` meets its contract: the payload follows the header, and the other bytes are unchanged.
 use Rattle.records_stores.proofs.PutLaws.{both}
-use borrow.Author.Rules.{rules}
 use Rattle.records_stores.proofs.put_both.Goals as goal
 
 pub returns : goal.returns

@@ -1,5 +1,5 @@
 -- `records_words::is_short` meets its contract: number and length, as one integer, are at most `most` above those of an empty packet n.
-use Rattle.std.proofs.Common.{ℕ, ◌^◌, ◌<◌, get_or, ap, ◌∙◌, arith, rules}
+use Rattle.std.proofs.Common.{ℕ, ◌^◌, ◌<◌, get_or, ap, ◌∙◌, arith}
 use Rattle.records_words.specs.Words.{held_of, is_short}
 use Rattle.records_words.proofs.WordLaws.{short_word}
 use Rattle.records_words.proofs.is_short.Goals as goal

@@ -1,5 +1,5 @@
 -- `records_words::is_sized` meets its contract: number and length, as one integer, are at most `most - least` above n and `least`.
-use Rattle.std.proofs.Common.{ℕ, ◌+◌, ◌^◌, ◌<◌, get_or, ap, ◌∙◌, arith, rules}
+use Rattle.std.proofs.Common.{ℕ, ◌+◌, ◌^◌, ◌<◌, get_or, ap, ◌∙◌, arith}
 use Rattle.records_words.specs.Words.{is_sized}
 use Rattle.records_words.specs.Words.{sent_in}
 use Rattle.records_words.proofs.WordLaws.{sized_word}

@@ -1,7 +1,6 @@
 -- `records_words::same_packet` meets its contract: words that agree above their lowest six bits have the same number and length.
 use Rattle.records_words.specs.Words.{entry_of}
 use Rattle.records_words.proofs.WordLaws.{same_word}
-use Rattle.std.proofs.Common.{rules}
 use Rattle.records_words.proofs.same_packet.Goals as goal
 
 pub returns : goal.returns

@@ -1,6 +1,5 @@
 -- `records_words::sent_of` meets its contract: each field is the definition's.
 use Rattle.records_words.specs.Words.{sent_of}
-use Rattle.std.proofs.Common.{rules}
 use Rattle.records_words.proofs.sent_of.Goals as goal
 
 pub returns : goal.returns

@@ -1,5 +1,5 @@
 -- `records_words::sent_time` meets its contract: the time sent + 1 if there is one, else 0.
-use Rattle.std.proofs.Common.{refl, rules}
+use Rattle.std.proofs.Common.{refl}
 use Rattle.records_words.specs.Words.{sent_time}
 use Rattle.records_words.proofs.sent_time.Goals as goal
 

@@ -1,6 +1,5 @@
 -- `records_words::sent_word` meets its contract: the word is the definition's, term by term.
 use Rattle.records_words.specs.Words.{sent_word}
-use Rattle.std.proofs.Common.{rules}
 use Rattle.records_words.proofs.sent_word.Goals as goal
 
 pub returns : goal.returns

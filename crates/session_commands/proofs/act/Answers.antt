@@ -1,6 +1,5 @@
 -- `session_commands::act` meets its contract: each arm makes its command's call and puts its line (Arms.antt, ActLaws.antt).
 use native.Mathlib.Omega.{arith}
-use borrow.Author.Rules.{rules}
 use Rattle.session_commands.proofs.ActLaws.{called, take_lined}
 use Rattle.session_commands.proofs.Arms.{as_write, as_drive, as_take, as_hand, as_read, as_close, as_bad}
 use Rattle.session_commands.proofs.act.Goals as goal

@@ -1,6 +1,5 @@
 -- `session_commands::read` meets its contract: the part lent has the length that the command gives.
 use native.Mathlib.Omega.{arith}
-use borrow.Author.Rules.{rules}
 use Rattle.session_commands.proofs.ActLaws.{of_part}
 use Rattle.session_commands.proofs.read.Goals as goal
 

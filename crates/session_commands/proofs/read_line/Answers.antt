@@ -1,7 +1,5 @@
 -- `session_commands::read_line` meets its contract: the line has the bytes that the read put.
-use Prim.Native.Nat.{◌-◌}
 use native.Mathlib.Omega.{arith}
-use borrow.Author.Rules.{rules}
 use Rattle.session_commands.proofs.ActLaws.{at_most, was_read}
 use Rattle.session_commands.proofs.read_line.Goals as goal
 

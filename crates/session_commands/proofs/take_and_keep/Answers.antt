@@ -2,7 +2,6 @@
 use Prim.Native.Nat.{min}
 use native.Mathlib.Omega.{arith}
 use lib.ListN.{length}
-use borrow.Author.Rules.{rules}
 use Rattle.session_commands.proofs.ActLaws.{of_part}
 use Rattle.session_commands.proofs.take_and_keep.Goals as goal
 

@@ -1,5 +1,4 @@
 -- `session_commands::take_into` meets its contract: what is kept is what was taken.
-use borrow.Author.Rules.{rules}
 use Rattle.session_commands.proofs.ActLaws.{kept_take}
 use Rattle.session_commands.proofs.take_into.Goals as goal
 

@@ -1,7 +1,6 @@
 -- `session_commands::write` meets its contract: the part filled has the length that the command gives.
 use native.Mathlib.Omega.{arith}
 use mathlib.Core.Path.{refl}
-use borrow.Author.Rules.{rules}
 use Rattle.session_commands.proofs.ActLaws.{of_part}
 use Rattle.session_commands.proofs.write.Goals as goal
 

@@ -1,12 +1,10 @@
 -- `take_batch::batch` meets its contract. The loop's invariant: k entries of one size are counted, and the total is k plus what is to come.
-use Prim.Native.Nat.{ℕ, ◌+◌, ◌-◌, ◌≤◌}
 use native.Mathlib.Omega.{arith}
 use mathlib.Core.Path.{◌≡◌, ap, sym, ◌∙◌}
 use lib.ListN.{length}
 use borrow.Author.Rules.{rules}
-use Rattle.records.specs.Seen.{entry_words}
-use Rattle.take_batch.specs.Batch.{entry_size, Batched}
-use Rattle.take_batch.proofs.SameSize.{same_from, same_start, same_again, same_over, same_ends, batched}
+use Rattle.take_batch.specs.Batch.{entry_size}
+use Rattle.take_batch.proofs.SameSize.{same_again, same_over, same_ends, batched}
 use Rattle.take_batch.proofs.batch.Goals as goal
 
 pub returns-then-entry_size-size : goal.returns-then-entry_size-size

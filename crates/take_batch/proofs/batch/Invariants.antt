@@ -1,11 +1,7 @@
-use Prim.Native.Nat.{ℕ, ◌+◌, ◌-◌, ◌≤◌}
-use native.Mathlib.Omega.{arith}
-use mathlib.Core.Path.{◌≡◌, ap, sym, ◌∙◌}
-use lib.ListN.{length}
-use borrow.Author.Rules.{rules}
+use Prim.Native.Nat.{◌+◌, ◌-◌, ◌≤◌}
+use mathlib.Core.Path.{◌≡◌}
 use Rattle.records.specs.Seen.{entry_words}
-use Rattle.take_batch.specs.Batch.{entry_size, Batched}
-use Rattle.take_batch.proofs.SameSize.{same_from, same_start, same_again, same_over, same_ends, batched}
+use Rattle.take_batch.proofs.SameSize.{same_from}
 use Rattle.take_batch.proofs.batch.Given as goal
 
 abbrev pub invariant-loop-k : goal.invariant-loop-k

@@ -1,6 +1,5 @@
 -- `take_batch::left_entry` meets its contract: the entries left to take are the last words of the queue.
 use mathlib.Core.Path.{ap, ◌∙◌}
-use borrow.Author.Rules.{rules}
 use Rattle.records_words.specs.Words.{entry_of}
 use Rattle.take_batch.proofs.LeftWords.{left_word}
 use Rattle.take_batch.proofs.left_entry.Goals as goal

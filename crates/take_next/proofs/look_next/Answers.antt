@@ -1,6 +1,5 @@
 -- `take_next::look_next` meets its contract: the part returned has the bytes of what the search found.
 use Rattle.take_next.proofs.LookNext.{shows_state, shows_packet}
-use borrow.Author.Rules.{rules}
 use Rattle.take_next.proofs.look_next.Goals as goal
 
 pub returns-then-x : goal.returns-then-x

@@ -1,5 +1,4 @@
 -- `take_next::taken_queue` meets its contract: either the last entry is taken, or more are left.
-use borrow.Author.Rules.{rules}
 use Rattle.take_next.proofs.TakeModel.{takes_last, takes_more}
 use Rattle.take_next.proofs.taken_queue.Goals as goal
 

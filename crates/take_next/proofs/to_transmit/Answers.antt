@@ -1,9 +1,7 @@
 -- `take_next::to_transmit` meets its contract. The loop's invariant (`Going`): after i entries the buffer has their datagrams, and their
 -- packets are marked.
-use Prim.Native.Nat.{◌-◌}
-use native.Mathlib.Omega.{arith}
 use borrow.Author.Rules.{rules}
-use Rattle.take_next.proofs.TakeSome.{Going, starts, next_kept, again}
+use Rattle.take_next.proofs.TakeSome.{starts, next_kept, again}
 use Rattle.take_next.proofs.TakeModel.{ends}
 use Rattle.take_next.proofs.to_transmit.Goals as goal
 

@@ -1,8 +1,5 @@
 use Prim.Native.Nat.{◌-◌}
-use native.Mathlib.Omega.{arith}
-use borrow.Author.Rules.{rules}
-use Rattle.take_next.proofs.TakeSome.{Going, starts, next_kept, again}
-use Rattle.take_next.proofs.TakeModel.{ends}
+use Rattle.take_next.proofs.TakeSome.{Going}
 use Rattle.take_next.proofs.to_transmit.Given as goal
 
 abbrev pub invariant-loop-i : goal.invariant-loop-i

@@ -1,6 +1,5 @@
 -- `udx_c_part::look_place` meets its contract: no part in place of refusal 1, else the part that the search finds.
-use mathlib.Core.Path.{◌≡◌, sym, ◌∙◌}
-use borrow.Author.Rules.{rules}
+use mathlib.Core.Path.{sym, ◌∙◌}
 use Rattle.records.specs.Seen.{Lent}
 use Rattle.rules_lent.specs.Broken.{lent}
 use Rattle.udx.proofs.Unbroken.{unbroken}

@@ -1,10 +1,7 @@
 -- `write_all::write_pieces` meets its contract. The loop's invariant is `Going`: what went, joined to what the model does with the bytes
 -- left, is what it does with all of them. The measure is the number of bytes left.
-use Prim.Native.Nat.{◌-◌}
 use mathlib.Core.Path.{sym, ◌∙◌}
-use lib.ListN.{length}
-use borrow.Author.Rules.{rules}
-use Rattle.write_all.proofs.Going.{Going, starts, roomy, again, ends_full, ends_empty}
+use Rattle.write_all.proofs.Going.{again, ends_full, ends_empty}
 use Rattle.write_all.proofs.write_pieces.Goals as goal
 
 pub loop-at-preserved : goal.loop-at-preserved

@@ -1,8 +1,6 @@
 use Prim.Native.Nat.{◌-◌}
-use mathlib.Core.Path.{sym, ◌∙◌}
 use lib.ListN.{length}
-use borrow.Author.Rules.{rules}
-use Rattle.write_all.proofs.Going.{Going, starts, roomy, again, ends_full, ends_empty}
+use Rattle.write_all.proofs.Going.{Going}
 use Rattle.write_all.proofs.write_pieces.Given as goal
 
 abbrev pub invariant-loop-at : goal.invariant-loop-at

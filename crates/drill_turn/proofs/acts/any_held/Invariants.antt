@@ -1,4 +1,4 @@
-use Rattle.std.proofs.Common.{◌≡◌, ◌+◌, ◌-◌, ◌*◌, ◌≤◌, length, arith, rules}
+use Rattle.std.proofs.Common.{◌≤◌}
 use Rattle.drill_turn.proofs.acts.any_held.Given as goal
 
 abbrev pub invariant-loop-left : goal.invariant-loop-left

@@ -1,6 +1,5 @@
 -- `drive_all::poll::before_flush` meets its contract: the clock, the largest ack, the timeouts.
-use borrow.Author.Rules.{rules}
-use Rattle.drive_all.proofs.Whole.{driven_acked, settled_checkable, begins}
+use Rattle.drive_all.proofs.Whole.{begins}
 use Rattle.drive_all.proofs.poll.before_flush.Goals as goal
 
 pub returns : goal.returns

@@ -1,6 +1,5 @@
 -- `packet::sack::block_at` meets its contract: each branch's test says whether more than 8 bytes are left at the place.
 use native.Mathlib.Omega.{arith}
-use borrow.Author.Rules.{rules}
 use Rattle.packet.proofs.Blocks.{next_range, next_end}
 use Rattle.packet.proofs.sack.block_at.Goals as goal
 

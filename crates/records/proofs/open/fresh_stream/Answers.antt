@@ -1,6 +1,5 @@
 -- `records::open::fresh_stream` meets its contract: each group is the fresh one.
 use Rattle.records.specs.Open.{fresh_stream}
-use Rattle.std.proofs.Common.{rules}
 use Rattle.records.proofs.open.fresh_stream.Goals as goal
 
 pub returns : goal.returns

@@ -1,5 +1,5 @@
 -- `records::open::open` meets its contract: each test that refuses is the one that `open_why` finds first.
-use Rattle.std.proofs.Common.{refl, rules}
+use Rattle.std.proofs.Common.{refl}
 use Rattle.error.specs.declared.Refusal.TheVariants.{BrokenRecords, SegmentCeiling, BadClock}
 use Rattle.records.proofs.OpenLaws.{refuses, accepts, why_outgoing, why_incoming, why_headers, why_few, why_many, why_clock, why_none}
 use Rattle.records.proofs.open.open.Goals as goal

@@ -2,7 +2,6 @@
 -- that computes the step.
 use native.Mathlib.Omega.{arith}
 use borrow.Author.Tests.{lt-ltb, le-ltb}
-use borrow.Author.Rules.{rules}
 use Rattle.rtt.specs.Window.{grown}
 use Rattle.rtt.proofs.cwnd.grow.Goals as goal
 use Rattle.rtt.proofs.cwnd.grow.Goals.{then-share-lt1, else-share-lt1}

@@ -1,7 +1,5 @@
 -- `session_turn::running::run_one` meets its contract: the command runs on the end it is for, or the run ends (TurnLaws.antt).
-use native.Mathlib.Omega.{arith}
 use mathlib.Core.Path.{sym, ◌∙◌}
-use borrow.Author.Rules.{rules}
 use Rattle.session_kept.specs.Kept.{kept_of}
 use Rattle.session_turn.proofs.TurnLaws.{has-datagram, reads_short, turn_zero, turn_one, turn_stops}
 use Rattle.session_turn.proofs.running.run_one.Goals as goal

@@ -1,6 +1,5 @@
 -- `udx::close::close` meets its contract: the verdict is the model's, and an accepted close gives the model's answer.
 use mathlib.Core.Path.{sym, ◌∙◌}
-use borrow.Author.Rules.{rules}
 use Rattle.records.specs.Seen.{Lent}
 use Rattle.rules_lent.specs.Broken.{lent}
 use Rattle.udx.proofs.CloseLaws.{close_says, close_refused, close_able, close_answers}

@@ -1,5 +1,4 @@
 -- `udx::drive::drive` meets its contract: the refusals are the model's list, and an accepted drive gives the model's answer.
-use borrow.Author.Rules.{rules}
 use Rattle.records.specs.Seen.{Lent}
 use Rattle.rules_lent.specs.Broken.{lent}
 use Rattle.udx.proofs.DriveLaws.{drive_refused, at_rest, drivable, drive_done, drive_answers}

@@ -1,6 +1,5 @@
 -- `udx::look::look` meets its contract: an empty part in place of refusal 1, else the part that `look_next` finds.
 use mathlib.Core.Path.{sym, ◌∙◌}
-use borrow.Author.Rules.{rules}
 use Rattle.records.specs.Seen.{Lent}
 use Rattle.rules_lent.specs.Broken.{lent}
 use Rattle.udx.proofs.LookLaws.{look_nothing, look_kept, look_shows}

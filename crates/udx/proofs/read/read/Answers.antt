@@ -1,6 +1,5 @@
 -- `udx::read::read` meets its contract: refusal 1, else what is held in order.
 use mathlib.Core.Path.{sym, ◌∙◌}
-use borrow.Author.Rules.{rules}
 use Rattle.records.specs.Seen.{Lent}
 use Rattle.rules_lent.specs.Broken.{lent}
 use Rattle.udx.proofs.ReadLaws.{read_refused, read_readable, read_gives}

@@ -1,5 +1,4 @@
 -- `udx::take::take` meets its contract: the verdict is the model's, and an accepted take gives the model's answer.
-use borrow.Author.Rules.{rules}
 use Rattle.records.specs.Seen.{Lent}
 use Rattle.rules_lent.specs.Broken.{lent}
 use Rattle.udx.proofs.TakeLaws.{take_refused, take_nothing, take_sendable, take_batch}

@@ -2,7 +2,6 @@
 -- what was after them.
 use mathlib.Core.Path.{sym}
 use native.Mathlib.Omega.{arith}
-use borrow.Author.Rules.{rules}
 use Rattle.packet.proofs.HeaderLaws.{encoded_long, encoded_short, answer_long, answer_short}
 use Rattle.packet.proofs.header.Header.encode.Goals as goal
 

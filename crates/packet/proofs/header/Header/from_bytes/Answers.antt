@@ -1,7 +1,6 @@
 -- `packet::header::Header::from_bytes` meets its contract: its tests are those of `has_header`, in the same order, and each field is read at
 -- its place.
 use native.Mathlib.Omega.{arith}
-use borrow.Author.Rules.{rules}
 use Rattle.packet.proofs.HeaderLaws.{decoded_short, decoded_magic, decoded_version, decoded_packet}
 use Rattle.packet.proofs.header.Header.from_bytes.Goals as goal
 

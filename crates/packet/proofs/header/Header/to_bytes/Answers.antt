@@ -1,5 +1,4 @@
 -- `packet::header::Header::to_bytes` meets its contract: each byte is the one that `header_bytes` has at its place, four for each number.
-use borrow.Author.Rules.{rules}
 use Rattle.packet.specs.Header.{header_bytes}
 use Rattle.packet.proofs.HeaderLaws.{bytes_of, laid}
 use Rattle.packet.proofs.header.Header.to_bytes.Goals as goal

@@ -3,7 +3,6 @@
 use mathlib.Core.Path.{ap₂, ◌∙◌}
 use native.Mathlib.Omega.{arith}
 use borrow.Author.Tests.{eq-eqb, ne_eqb}
-use borrow.Author.Rules.{rules}
 use Rattle.rtt.specs.Estimate.{timed, sampled}
 use Rattle.rtt.proofs.Range.{samples}
 use Rattle.rtt.proofs.estimate.Rtt.sample.Goals as goal
