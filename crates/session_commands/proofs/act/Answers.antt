@@ -8,29 +8,29 @@ pub returns-in-Write-clause-acts : goal.returns-in-Write-clause-acts
 returns-in-Write-clause-acts c =
     let w = c.put_line.ensures in
     (λ laid has short.
-          as_write _ _ _ _ _ _ _ _ _ _ _ c.in-Write.is
-          (called _ _ laid _ _ _ _ _ _ _ _ _ _ _ c.write-c.ensures w.0 w.1))
+    as_write _ _ _ _ _ _ _ _ _ _ _ c.in-Write.is
+    (called _ _ laid _ _ _ _ _ _ _ _ _ _ _ c.write-c.ensures w.0 w.1))
 
 pub returns-in-Drive-clause-acts : goal.returns-in-Drive-clause-acts
 returns-in-Drive-clause-acts c =
     let w = c.put_line-in-Drive.ensures in
     (λ laid has short.
-          as_drive _ _ _ _ _ _ _ _ _ _ c.in-Drive.is
-          (called _ _ laid _ _ _ _ _ _ _ _ _ _ _ c.drive-c.ensures w.0 w.1))
+    as_drive _ _ _ _ _ _ _ _ _ _ c.in-Drive.is
+    (called _ _ laid _ _ _ _ _ _ _ _ _ _ _ c.drive-c.ensures w.0 w.1))
 
 pub returns-in-Take-clause-acts : goal.returns-in-Take-clause-acts
 returns-in-Take-clause-acts c =
     let w = c.put_line-in-Take.ensures in
     (λ laid has short.
-          as_take _ _ _ _ _ _ _ _ _ c.in-Take.is
-          (take_lined _ _ _ _ _ _ _ _ _ _ _ _ laid (omega arith) c.take_and_keep-c.ensures w.0 w.1))
+    as_take _ _ _ _ _ _ _ _ _ c.in-Take.is
+    (take_lined _ _ _ _ _ _ _ _ _ _ _ _ laid (omega arith) c.take_and_keep-c.ensures w.0 w.1))
 
 pub returns-in-Hand-clause-acts : goal.returns-in-Hand-clause-acts
 returns-in-Hand-clause-acts c =
     let w = c.put_line-in-Hand.ensures in
     (λ laid has short.
-          as_hand _ _ _ _ _ _ _ _ _ _ _ c.in-Hand.is
-          has (λ there. called _ _ laid _ _ _ _ _ _ _ _ _ _ _ (c.hand-c.ensures there) w.0 w.1))
+    as_hand _ _ _ _ _ _ _ _ _ _ _ c.in-Hand.is
+    has (λ there. called _ _ laid _ _ _ _ _ _ _ _ _ _ _ (c.hand-c.ensures there) w.0 w.1))
 
 pub returns-in-Read-clause-acts : goal.returns-in-Read-clause-acts
 returns-in-Read-clause-acts c =
@@ -41,8 +41,8 @@ pub returns-in-Close-clause-acts : goal.returns-in-Close-clause-acts
 returns-in-Close-clause-acts c =
     let w = c.put_line-in-Close.ensures in
     (λ laid has short.
-          as_close _ _ _ _ _ _ _ _ _ c.in-Close.is
-          (called _ _ laid _ _ _ _ _ _ _ _ _ _ _ c.close-c.ensures w.0 w.1))
+    as_close _ _ _ _ _ _ _ _ _ c.in-Close.is
+    (called _ _ laid _ _ _ _ _ _ _ _ _ _ _ c.close-c.ensures w.0 w.1))
 
 pub returns-in-Bad-clause-acts : goal.returns-in-Bad-clause-acts
 returns-in-Bad-clause-acts c = (λ laid has short. as_bad _ _ _ _ _ _ c.in-Bad.is laid)

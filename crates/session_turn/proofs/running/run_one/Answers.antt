@@ -12,8 +12,8 @@ returns-then-is_for-clause-plays c =
     let theirs = kept_of g.ends.one.kept g.kept_1.now in
     let a = c.act-a.ensures in rw c.turned-then-is_for.ensures
     (λ inside zero one.
-          let is = sym (c.is_for.ensures _) ∙ c.if-is_for.true in
-          turn_zero _ _ _ _ _ p _ _ _ _ _ is one (a.acts zero (has-datagram 0 k.result.command theirs is) (reads_short _ _ _ p)))
+    let is = sym (c.is_for.ensures _) ∙ c.if-is_for.true in
+    turn_zero _ _ _ _ _ p _ _ _ _ _ is one (a.acts zero (has-datagram 0 k.result.command theirs is) (reads_short _ _ _ p)))
 
 pub returns-then-is_for-2-clause-plays : goal.returns-then-is_for-2-clause-plays
 returns-then-is_for-2-clause-plays c =
@@ -23,9 +23,9 @@ returns-then-is_for-2-clause-plays c =
     let theirs = kept_of g.ends.zero.kept g.kept_0.now in
     let a = c.act-a-then-is_for-2.ensures in rw c.turned-then-is_for-2.ensures
     (λ inside zero one.
-          let no_zero = sym (c.is_for.ensures _) ∙ c.if-is_for.false in
-          let is = sym (c.is_for-2.ensures _) ∙ c.if-is_for-2.true in
-          turn_one _ _ _ _ _ p _ _ _ _ _ no_zero is zero (a.acts one (has-datagram 1 k.result.command theirs is) (reads_short _ _ _ p)))
+    let no_zero = sym (c.is_for.ensures _) ∙ c.if-is_for.false in
+    let is = sym (c.is_for-2.ensures _) ∙ c.if-is_for-2.true in
+    turn_one _ _ _ _ _ p _ _ _ _ _ no_zero is zero (a.acts one (has-datagram 1 k.result.command theirs is) (reads_short _ _ _ p)))
 
 pub returns-clause-plays : goal.returns-clause-plays
 returns-clause-plays c =
@@ -33,6 +33,6 @@ returns-clause-plays c =
     let (same, rest) = c.stop.ensures in
     let (next, line) = rest in
     (λ inside zero one.
-          let no_zero = sym (c.is_for.ensures _) ∙ c.if-is_for.false in
-          let no_one = sym (c.is_for-2.ensures _) ∙ c.if-is_for-2.false in
-          turn_stops _ _ _ _ _ p _ _ _ no_zero no_one zero one same next line)
+    let no_zero = sym (c.is_for.ensures _) ∙ c.if-is_for.false in
+    let no_one = sym (c.is_for-2.ensures _) ∙ c.if-is_for-2.false in
+    turn_stops _ _ _ _ _ p _ _ _ no_zero no_one zero one same next line)
