@@ -1,5 +1,5 @@
 -- The answer of a call: the first refusal that applies, or what the call does.
-use Rattle.std.specs.Prelude.{ℕ, List, ◌∷◌, Bool, cond}
+use Rattle.std.specs.Prelude.{ℕ, List, [], ◌∷◌, Bool, cond}
 use Rattle.std.proofs.Math.Option.{Option, none, some}
 use Rattle.error.specs.declared.Refusal.{Refusal}
 use Rattle.error.specs.declared.Outcome.{Outcome}

@@ -2,7 +2,7 @@
 -- open the numbers are the model's (`StreamNumbers`), the next call answers as the model's does (`Answering`), refusal 1 does not occur,
 -- and look shows the next datagram (`Shows`); on the records, from C, and with the ways mixed. Each sentence follows from the field of the
 -- promise that renders it. Statements only: the proofs are in proofs/Answers.antt.
-use Rattle.std.specs.Prelude.{ℕ, ◌+◌, ◌≤◌, ◌<◌, ◌≡◌, List, Bool, eqb, length}
+use Rattle.std.specs.Prelude.{ℕ, ◌+◌, ◌≤◌, ◌<◌, ◌≡◌, List, [], Bool, eqb, length}
 use Rattle.std.proofs.Math.Option.{Option}
 use Rattle.error.specs.Answers.{number_of}
 use Rattle.error.specs.declared.UdxError.{UdxError}
