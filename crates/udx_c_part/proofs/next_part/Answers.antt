@@ -1,7 +1,11 @@
 -- `udx_c_part::next_part` meets its contract. The loop's invariant (`Searching`): the packets of the entries passed have left the store.
-use mathlib.Core.Path.{◌∙◌}
+use Prim.Native.Nat.{◌-◌}
+use mathlib.Core.Path.{◌≡◌, ◌∙◌}
+use mathlib.Core.List.{[]}
+use borrow.Author.Rules.{rules}
+use Rattle.take_entry.specs.Transmit.{is_there}
 use Rattle.take_entry.proofs.TakeOne.{test_there}
-use Rattle.udx_c_part.proofs.NextPart.{none_there, state_there, packet_there, packet_gone}
+use Rattle.udx_c_part.proofs.NextPart.{Searching, starts, none_there, state_there, packet_there, packet_gone}
 use Rattle.udx_c_part.proofs.next_part.Goals as goal
 
 pub returns-then-x : goal.returns-then-x
