@@ -1,5 +1,10 @@
 use Prim.Native.Nat.{◌-◌}
-use Rattle.udx_c_part.proofs.NextPart.{Searching}
+use mathlib.Core.Path.{◌≡◌, ◌∙◌}
+use mathlib.Core.List.{[]}
+use borrow.Author.Rules.{rules}
+use Rattle.take_entry.specs.Transmit.{is_there}
+use Rattle.take_entry.proofs.TakeOne.{test_there}
+use Rattle.udx_c_part.proofs.NextPart.{Searching, starts, none_there, state_there, packet_there, packet_gone}
 use Rattle.udx_c_part.proofs.next_part.Given as goal
 
 abbrev pub invariant-loop-n : goal.invariant-loop-n
