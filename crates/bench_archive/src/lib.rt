@@ -2,13 +2,15 @@
 // bench_path uses bench_calls as a library.
 #![tactic(auto)]
 
+use constants::{HELD_WORDS, QUEUE_WORDS, SENT_WORDS};
+
 // Refusal 1 on the whole records: returns 1 if they keep the rules.
 #[unsafe(no_mangle)]
 pub extern "C" fn udx_bench_rules(
     numbers: &[u64; 24],
-    sent: &[u64; 64],
-    held: &[u64; 32],
-    queue: &[u64; 128],
+    sent: &[u64; SENT_WORDS],
+    held: &[u64; HELD_WORDS],
+    queue: &[u64; QUEUE_WORDS],
 ) -> u32 {
     bench_calls::udx_bench_rules(numbers, sent, held, queue)
 }
@@ -17,9 +19,9 @@ pub extern "C" fn udx_bench_rules(
 #[unsafe(no_mangle)]
 pub extern "C" fn udx_bench_write(
     numbers: &[u64; 24],
-    sent: &mut [u64; 64],
-    held: &[u64; 32],
-    queue: &mut [u64; 128],
+    sent: &mut [u64; SENT_WORDS],
+    held: &[u64; HELD_WORDS],
+    queue: &mut [u64; QUEUE_WORDS],
     outgoing: &mut [u8],
     incoming: &[u8],
     headers: &[u8],
@@ -34,9 +36,9 @@ pub extern "C" fn udx_bench_write(
 #[unsafe(no_mangle)]
 pub extern "C" fn udx_bench_take(
     numbers: &[u64; 24],
-    sent: &mut [u64; 64],
-    held: &[u64; 32],
-    queue: &[u64; 128],
+    sent: &mut [u64; SENT_WORDS],
+    held: &[u64; HELD_WORDS],
+    queue: &[u64; QUEUE_WORDS],
     outgoing: &[u8],
     incoming: &[u8],
     headers: &[u8],
@@ -49,9 +51,9 @@ pub extern "C" fn udx_bench_take(
 #[unsafe(no_mangle)]
 pub extern "C" fn udx_bench_deliver(
     numbers: &[u64; 24],
-    sent: &mut [u64; 64],
-    held: &mut [u64; 32],
-    queue: &mut [u64; 128],
+    sent: &mut [u64; SENT_WORDS],
+    held: &mut [u64; HELD_WORDS],
+    queue: &mut [u64; QUEUE_WORDS],
     outgoing: &[u8],
     incoming: &mut [u8],
     headers: &mut [u8],
@@ -67,9 +69,9 @@ pub extern "C" fn udx_bench_deliver(
 #[unsafe(no_mangle)]
 pub extern "C" fn udx_bench_read(
     numbers: &[u64; 24],
-    sent: &[u64; 64],
-    held: &mut [u64; 32],
-    queue: &[u64; 128],
+    sent: &[u64; SENT_WORDS],
+    held: &mut [u64; HELD_WORDS],
+    queue: &[u64; QUEUE_WORDS],
     outgoing: &[u8],
     incoming: &[u8],
     headers: &[u8],
@@ -82,9 +84,9 @@ pub extern "C" fn udx_bench_read(
 #[unsafe(no_mangle)]
 pub extern "C" fn udx_bench_drive(
     numbers: &[u64; 24],
-    sent: &mut [u64; 64],
-    held: &[u64; 32],
-    queue: &mut [u64; 128],
+    sent: &mut [u64; SENT_WORDS],
+    held: &[u64; HELD_WORDS],
+    queue: &mut [u64; QUEUE_WORDS],
     outgoing: &[u8],
     incoming: &[u8],
     headers: &mut [u8],

@@ -2,6 +2,7 @@
 // and `totals` below.
 #![tactic(auto)]
 
+use constants::{HELD_WORDS, QUEUE_WORDS, SENT_WORDS};
 use error::{Outcome, UdxError};
 use records::{
     Clocks, Deadline, Ending, Ids, Queue, Receiver, Sender, Stream, StreamState, Timing, Totals,
@@ -93,9 +94,9 @@ pub fn totals(n: &[u64; 24]) -> Totals {
 // Refusal 1 on the whole records: returns 1 if they keep the rules.
 pub fn udx_bench_rules(
     numbers: &[u64; 24],
-    sent: &[u64; 64],
-    held: &[u64; 32],
-    queue: &[u64; 128],
+    sent: &[u64; SENT_WORDS],
+    held: &[u64; HELD_WORDS],
+    queue: &[u64; QUEUE_WORDS],
 ) -> u32 {
     if rules_stream::ok_stream(stream(numbers), totals(numbers), sent, held, queue) {
         return 1;
@@ -106,9 +107,9 @@ pub fn udx_bench_rules(
 // One write: returns the bytes accepted.
 pub fn udx_bench_write(
     numbers: &[u64; 24],
-    sent: &mut [u64; 64],
-    held: &[u64; 32],
-    queue: &mut [u64; 128],
+    sent: &mut [u64; SENT_WORDS],
+    held: &[u64; HELD_WORDS],
+    queue: &mut [u64; QUEUE_WORDS],
     outgoing: &mut [u8],
     incoming: &[u8],
     headers: &[u8],
@@ -123,9 +124,9 @@ pub fn udx_bench_write(
 // One take: returns the bytes put.
 pub fn udx_bench_take(
     numbers: &[u64; 24],
-    sent: &mut [u64; 64],
-    held: &[u64; 32],
-    queue: &[u64; 128],
+    sent: &mut [u64; SENT_WORDS],
+    held: &[u64; HELD_WORDS],
+    queue: &[u64; QUEUE_WORDS],
     outgoing: &[u8],
     incoming: &[u8],
     headers: &[u8],
@@ -140,9 +141,9 @@ pub fn udx_bench_take(
 // One delivery: returns 1 if it is accepted.
 pub fn udx_bench_deliver(
     numbers: &[u64; 24],
-    sent: &mut [u64; 64],
-    held: &mut [u64; 32],
-    queue: &mut [u64; 128],
+    sent: &mut [u64; SENT_WORDS],
+    held: &mut [u64; HELD_WORDS],
+    queue: &mut [u64; QUEUE_WORDS],
     outgoing: &[u8],
     incoming: &mut [u8],
     headers: &mut [u8],
@@ -176,9 +177,9 @@ pub fn udx_bench_deliver(
 // One read: returns the bytes put.
 pub fn udx_bench_read(
     numbers: &[u64; 24],
-    sent: &[u64; 64],
-    held: &mut [u64; 32],
-    queue: &[u64; 128],
+    sent: &[u64; SENT_WORDS],
+    held: &mut [u64; HELD_WORDS],
+    queue: &[u64; QUEUE_WORDS],
     outgoing: &[u8],
     incoming: &[u8],
     headers: &[u8],
@@ -193,9 +194,9 @@ pub fn udx_bench_read(
 // One drive: returns the entries left to take plus remote acked.
 pub fn udx_bench_drive(
     numbers: &[u64; 24],
-    sent: &mut [u64; 64],
-    held: &[u64; 32],
-    queue: &mut [u64; 128],
+    sent: &mut [u64; SENT_WORDS],
+    held: &[u64; HELD_WORDS],
+    queue: &mut [u64; QUEUE_WORDS],
     outgoing: &[u8],
     incoming: &[u8],
     headers: &mut [u8],

@@ -3,6 +3,7 @@
 #![tactic(auto)]
 
 use bench_calls::{stream, totals};
+use constants::{HELD_WORDS, QUEUE_WORDS, SENT_WORDS};
 use records::{Queue, Receiver, Sender, Timing};
 use rtt::Nanos;
 use udx_steps::{Step, nothing};
@@ -23,9 +24,9 @@ fn unchanged(r: Step) -> Step {
 // Writes the packet of `size` bytes at `at`, if it is whole.
 fn write_one(
     r: Step,
-    sent: &mut [u64; 64],
-    held: &[u64; 32],
-    queue: &mut [u64; 128],
+    sent: &mut [u64; SENT_WORDS],
+    held: &[u64; HELD_WORDS],
+    queue: &mut [u64; QUEUE_WORDS],
     outgoing: &mut [u8],
     incoming: &[u8],
     headers: &[u8],
@@ -49,9 +50,9 @@ fn write_one(
 // Writes one packet at a time, until one is not accepted.
 fn write(
     r: Step,
-    sent: &mut [u64; 64],
-    held: &[u64; 32],
-    queue: &mut [u64; 128],
+    sent: &mut [u64; SENT_WORDS],
+    held: &[u64; HELD_WORDS],
+    queue: &mut [u64; QUEUE_WORDS],
     outgoing: &mut [u8],
     incoming: &[u8],
     headers: &[u8],
@@ -78,9 +79,9 @@ fn write(
 
 fn drive(
     r: Step,
-    sent: &mut [u64; 64],
-    held: &[u64; 32],
-    queue: &mut [u64; 128],
+    sent: &mut [u64; SENT_WORDS],
+    held: &[u64; HELD_WORDS],
+    queue: &mut [u64; QUEUE_WORDS],
     outgoing: &[u8],
     incoming: &[u8],
     headers: &mut [u8],
@@ -95,9 +96,9 @@ fn drive(
 // Takes the next batch into the buffer at `at`.
 fn take_one(
     r: Step,
-    sent: &mut [u64; 64],
-    held: &[u64; 32],
-    queue: &[u64; 128],
+    sent: &mut [u64; SENT_WORDS],
+    held: &[u64; HELD_WORDS],
+    queue: &[u64; QUEUE_WORDS],
     outgoing: &[u8],
     incoming: &[u8],
     headers: &[u8],
@@ -123,9 +124,9 @@ fn all_taken(r: Step) -> bool {
 // Takes batches until no entry is left: a queue of 128 entries has 13 batches of ten.
 fn take(
     r: Step,
-    sent: &mut [u64; 64],
-    held: &[u64; 32],
-    queue: &[u64; 128],
+    sent: &mut [u64; SENT_WORDS],
+    held: &[u64; HELD_WORDS],
+    queue: &[u64; QUEUE_WORDS],
     outgoing: &[u8],
     incoming: &[u8],
     headers: &[u8],
@@ -152,9 +153,9 @@ fn take(
 // Delivers the datagram of `size` bytes at `at`, if it is whole and not lost.
 fn deliver_one(
     r: Step,
-    sent: &mut [u64; 64],
-    held: &mut [u64; 32],
-    queue: &mut [u64; 128],
+    sent: &mut [u64; SENT_WORDS],
+    held: &mut [u64; HELD_WORDS],
+    queue: &mut [u64; QUEUE_WORDS],
     outgoing: &[u8],
     incoming: &mut [u8],
     headers: &mut [u8],
@@ -184,9 +185,9 @@ fn deliver_one(
 // Delivers the datagrams that are not lost, of 128 at most: `lost` has a byte for each, 0 if it arrives.
 fn deliver(
     r: Step,
-    sent: &mut [u64; 64],
-    held: &mut [u64; 32],
-    queue: &mut [u64; 128],
+    sent: &mut [u64; SENT_WORDS],
+    held: &mut [u64; HELD_WORDS],
+    queue: &mut [u64; QUEUE_WORDS],
     outgoing: &[u8],
     incoming: &mut [u8],
     headers: &mut [u8],
@@ -215,9 +216,9 @@ fn deliver(
 // Reads `size` bytes at most into the buffer at `at`.
 fn read_one(
     r: Step,
-    sent: &[u64; 64],
-    held: &mut [u64; 32],
-    queue: &[u64; 128],
+    sent: &[u64; SENT_WORDS],
+    held: &mut [u64; HELD_WORDS],
+    queue: &[u64; QUEUE_WORDS],
     outgoing: &[u8],
     incoming: &[u8],
     headers: &[u8],
@@ -241,9 +242,9 @@ fn read_one(
 // Reads one packet at a time, until a read puts nothing.
 fn read(
     r: Step,
-    sent: &[u64; 64],
-    held: &mut [u64; 32],
-    queue: &[u64; 128],
+    sent: &[u64; SENT_WORDS],
+    held: &mut [u64; HELD_WORDS],
+    queue: &[u64; QUEUE_WORDS],
     outgoing: &[u8],
     incoming: &[u8],
     headers: &[u8],
@@ -338,9 +339,9 @@ fn failed(r: Step) -> u32 {
 #[unsafe(no_mangle)]
 pub extern "C" fn udx_path_write(
     numbers: &mut [u64; 24],
-    sent: &mut [u64; 64],
-    held: &[u64; 32],
-    queue: &mut [u64; 128],
+    sent: &mut [u64; SENT_WORDS],
+    held: &[u64; HELD_WORDS],
+    queue: &mut [u64; QUEUE_WORDS],
     outgoing: &mut [u8],
     incoming: &[u8],
     headers: &[u8],
@@ -366,9 +367,9 @@ pub extern "C" fn udx_path_write(
 #[unsafe(no_mangle)]
 pub extern "C" fn udx_path_drive(
     numbers: &mut [u64; 24],
-    sent: &mut [u64; 64],
-    held: &[u64; 32],
-    queue: &mut [u64; 128],
+    sent: &mut [u64; SENT_WORDS],
+    held: &[u64; HELD_WORDS],
+    queue: &mut [u64; QUEUE_WORDS],
     outgoing: &[u8],
     incoming: &[u8],
     headers: &mut [u8],
@@ -392,9 +393,9 @@ pub extern "C" fn udx_path_drive(
 #[unsafe(no_mangle)]
 pub extern "C" fn udx_path_take(
     numbers: &mut [u64; 24],
-    sent: &mut [u64; 64],
-    held: &[u64; 32],
-    queue: &[u64; 128],
+    sent: &mut [u64; SENT_WORDS],
+    held: &[u64; HELD_WORDS],
+    queue: &[u64; QUEUE_WORDS],
     outgoing: &[u8],
     incoming: &[u8],
     headers: &[u8],
@@ -417,9 +418,9 @@ pub extern "C" fn udx_path_take(
 #[unsafe(no_mangle)]
 pub extern "C" fn udx_path_deliver(
     numbers: &mut [u64; 24],
-    sent: &mut [u64; 64],
-    held: &mut [u64; 32],
-    queue: &mut [u64; 128],
+    sent: &mut [u64; SENT_WORDS],
+    held: &mut [u64; HELD_WORDS],
+    queue: &mut [u64; QUEUE_WORDS],
     outgoing: &[u8],
     incoming: &mut [u8],
     headers: &mut [u8],
@@ -448,9 +449,9 @@ pub extern "C" fn udx_path_deliver(
 #[unsafe(no_mangle)]
 pub extern "C" fn udx_path_read(
     numbers: &mut [u64; 24],
-    sent: &[u64; 64],
-    held: &mut [u64; 32],
-    queue: &[u64; 128],
+    sent: &[u64; SENT_WORDS],
+    held: &mut [u64; HELD_WORDS],
+    queue: &[u64; QUEUE_WORDS],
     outgoing: &[u8],
     incoming: &[u8],
     headers: &[u8],

@@ -15,11 +15,13 @@ ghost use Rattle.close_state.specs.State.{
   StateQueued,
 };
 
-use constants::UDX_HEADER_END;
+use constants::{QUEUE_WORDS, UDX_HEADER_END, UDX_HEADER_SIZE};
 use error::UdxError;
 use packet::Header;
 use records::{Ending, Entry, Queue, StreamState, Totals};
 use write_piece::create_header;
+
+const HEADER: u32 = UDX_HEADER_SIZE as u32;
 
 // What a queued state packet changes besides the words and the bytes.
 #[derive(Clone, Copy)]
@@ -97,7 +99,7 @@ fn state_entry() -> Entry
 {
     Entry {
         number: 0,
-        length: 20,
+        length: HEADER,
         state: true,
     }
 }
@@ -135,7 +137,7 @@ pub fn send_state_packet(
     remote: u32,
     seq: u32,
     ack: u32,
-    queue: &mut [u64; 128],
+    queue: &mut [u64; QUEUE_WORDS],
     headers: &mut [u8],
 ) -> Queued
     requires { Pushable q (length headers.old) }

@@ -37,22 +37,32 @@ pub const RTO_MIN: u64 = 1_000_000_000;
 // The window field of every header made here, u32::MAX (create_header).
 pub const RECV_WIN: u32 = 4_294_967_295;
 
-// 01, 'Records': the ceilings of the lent stores.
+// 01, 'Records' and 'Rust forms that need another shape': the geometry of what is lent.
 
-// Most packets stored at once, and most held at once: the slots of each store.
+// Slots of the outgoing and of the incoming store: the most packets stored, and the most held.
 pub const STORE_SLOTS: u32 = 32;
-// Most state packets queued at once: the pieces of the header store.
-pub const STATE_PACKETS: u32 = 64;
 // Bytes in one slot of the outgoing store: a whole datagram.
 pub const OUTGOING_SLOT: usize = 1_400;
 // Bytes in one slot of the incoming store: a whole payload.
 pub const INCOMING_SLOT: usize = 1_380;
-// Bytes of the three stores: 32 x 1,400, 32 x 1,380, 64 x 20.
-pub const OUTGOING_STORE: usize = 44_800;
-
-pub const INCOMING_STORE: usize = 44_160;
-
-pub const HEADER_STORE: usize = 1_280;
+// Most state packets queued at once: the pieces of the header store.
+pub const STATE_PACKETS: u32 = 64;
+// Bytes in one piece of the header store: a state packet.
+pub const HEADER_PIECE: usize = UDX_HEADER_SIZE;
+// Most packets queued at once: each slot's packet twice, since a drive can queue again what a write has queued since the last one.
+pub const PACKET_ENTRIES: u32 = 2 * STORE_SLOTS;
+// Words of the stored packets, two per slot.
+pub const SENT_WORDS: usize = 2 * STORE_SLOTS as usize;
+// Words of the held packets, one per slot.
+pub const HELD_WORDS: usize = STORE_SLOTS as usize;
+// Words of the queue, one per entry.
+pub const QUEUE_WORDS: usize = (STATE_PACKETS + PACKET_ENTRIES) as usize;
+// Bytes of the outgoing store, 44,800.
+pub const OUTGOING_STORE: usize = STORE_SLOTS as usize * OUTGOING_SLOT;
+// Bytes of the incoming store, 44,160.
+pub const INCOMING_STORE: usize = STORE_SLOTS as usize * INCOMING_SLOT;
+// Bytes of the header store, 1,280.
+pub const HEADER_STORE: usize = STATE_PACKETS as usize * HEADER_PIECE;
 
 // 01, other ceilings.
 

@@ -6,6 +6,7 @@ ghost use Rattle.rtt.specs.Estimate.{InRange};
 ghost use Rattle.deliver_acks.specs.Acked.{left_sender, measured_rtt, acked_totals, Measures, Timed, InWindow, AcksOne};
 ghost use Rattle.deliver_acks.specs.Sacks.{RunInWindow, AcksRun, AcksBlocks};
 
+use constants::SENT_WORDS;
 use packet::Block;
 use picks::{larger, less, less64, smaller};
 use records::{Sender, Sent, Totals};
@@ -63,7 +64,7 @@ fn acked_totals(t: Totals, p: Sent) -> Totals
 }
 
 // Removes packet n if it is stored (handle_remote_ack_for_packet).
-pub fn handle_remote_ack(a: Acks, clock: Nanos, sent: &mut [u64; 64], n: u32) -> Acks
+pub fn handle_remote_ack(a: Acks, clock: Nanos, sent: &mut [u64; SENT_WORDS], n: u32) -> Acks
     requires { Timed a clock.0 × InWindow a.sender n }
     ensures { AcksOne clock.0 n a sent.old result sent.new }
 {
@@ -84,7 +85,7 @@ pub fn handle_remote_ack(a: Acks, clock: Nanos, sent: &mut [u64; 64], n: u32) ->
 }
 
 // Acks the numbers from `from` to below `to`, ascending.
-fn ack_numbers(a: Acks, clock: Nanos, sent: &mut [u64; 64], from: u32, to: u32) -> Acks
+fn ack_numbers(a: Acks, clock: Nanos, sent: &mut [u64; SENT_WORDS], from: u32, to: u32) -> Acks
     requires { Timed a clock.0 × RunInWindow a.sender from to }
     ensures { AcksRun clock.0 from to a sent.old result sent.new }
 {
@@ -99,7 +100,7 @@ fn ack_numbers(a: Acks, clock: Nanos, sent: &mut [u64; 64], from: u32, to: u32) 
 
 // Acks the numbers of a block, end excluded. Only numbers from remote_acked to below seq can be stored, so a block takes at most 32
 // turns, however long it is.
-fn ack_block(a: Acks, clock: Nanos, sent: &mut [u64; 64], start: u32, end: u32) -> Acks
+fn ack_block(a: Acks, clock: Nanos, sent: &mut [u64; SENT_WORDS], start: u32, end: u32) -> Acks
     requires { Timed a clock.0 × (a.sender.seq ≤ a.sender.remote_acked + 32) }
     ensures { AcksRun clock.0 start end a sent.old result sent.new }
 {
@@ -109,7 +110,12 @@ fn ack_block(a: Acks, clock: Nanos, sent: &mut [u64; 64], start: u32, end: u32) 
 }
 
 // Acks every block of a payload.
-pub fn handle_incoming_sacks(a: Acks, clock: Nanos, sent: &mut [u64; 64], payload: &[u8]) -> Acks
+pub fn handle_incoming_sacks(
+    a: Acks,
+    clock: Nanos,
+    sent: &mut [u64; SENT_WORDS],
+    payload: &[u8],
+) -> Acks
     requires { Timed a clock.0 × (a.sender.seq ≤ a.sender.remote_acked + 32) }
     ensures { AcksBlocks clock.0 payload.now a sent.old result sent.new }
 {

@@ -6,6 +6,7 @@ ghost use Rattle.close_state.specs.State.{Pushable};
 ghost use Rattle.deliver_parts.specs.Steps.{Measured};
 ghost use Rattle.deliver_all.specs.Handle.{Began, CanDeliver, Handled};
 
+use constants::{HELD_WORDS, QUEUE_WORDS, SENT_WORDS};
 use deliver_notes::{clocked, counted_received, on_ack};
 pub use deliver_parts::Delivered;
 use deliver_parts::{on_data, on_end, on_sack};
@@ -19,8 +20,8 @@ fn before_data(
     t: Totals,
     clock: Nanos,
     h: Header,
-    sent: &mut [u64; 64],
-    queue: &mut [u64; 128],
+    sent: &mut [u64; SENT_WORDS],
+    queue: &mut [u64; QUEUE_WORDS],
     headers: &mut [u8],
     payload: &[u8],
 ) -> Delivered
@@ -41,9 +42,9 @@ pub fn handle_incoming(
     t: Totals,
     clock: Nanos,
     h: Header,
-    sent: &mut [u64; 64],
-    held: &mut [u64; 32],
-    queue: &mut [u64; 128],
+    sent: &mut [u64; SENT_WORDS],
+    held: &mut [u64; HELD_WORDS],
+    queue: &mut [u64; QUEUE_WORDS],
     incoming: &mut [u8],
     headers: &mut [u8],
     payload: &[u8],

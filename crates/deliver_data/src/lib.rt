@@ -6,10 +6,11 @@ ghost use Rattle.std.specs.Prelude.{◌≡◌, ◌+◌, ◌≤◌, ◌<◌, max}
 ghost use Rattle.records.specs.Laid.{LaidReceiver};
 ghost use Rattle.deliver_data.specs.Absorbing.{Accepted, Cleared, Inserted, Advanced, Absorbed};
 
+use constants::HELD_WORDS;
 use records::{Held, Receiver, expose_length};
 
 // Clears the words of the numbers from top to below n: once top is past them, a stale word would count as a packet.
-fn clear_gap(held: &mut [u64; 32], top: u32, n: u32)
+fn clear_gap(held: &mut [u64; HELD_WORDS], top: u32, n: u32)
     ensures { Cleared held.old top n held.new }
 {
     expose_length(held);
@@ -31,7 +32,7 @@ fn top_with(top: u32, n: u32) -> u32
 // Holds a payload under number n. A repeat replaces what was held under n, and is read from its start.
 fn insert(
     r: Receiver,
-    held: &mut [u64; 32],
+    held: &mut [u64; HELD_WORDS],
     incoming: &mut [u8],
     n: u32,
     payload: &[u8],
@@ -59,7 +60,7 @@ fn insert(
 }
 
 // Moves ack past all that is held in order: to the first number not held, at most to top.
-fn in_order(r: Receiver, held: &[u64; 32]) -> Receiver
+fn in_order(r: Receiver, held: &[u64; HELD_WORDS]) -> Receiver
     requires { LaidReceiver r × (r.read_cursor ≤ r.ack) }
     ensures { Advanced r held.now result }
 {
@@ -78,7 +79,7 @@ fn in_order(r: Receiver, held: &[u64; 32]) -> Receiver
 // DATA numbered n (in handle_incoming). A number below ack was delivered before and may already be read, so it is not held again.
 pub fn absorb(
     r: Receiver,
-    held: &mut [u64; 32],
+    held: &mut [u64; HELD_WORDS],
     incoming: &mut [u8],
     n: u32,
     payload: &[u8],

@@ -5,6 +5,7 @@ ghost use Rattle.std.specs.Prelude.{length};
 ghost use Rattle.close_state.specs.State.{Pushable};
 ghost use Rattle.deliver_parts.specs.Steps.{Measured, Sacked, Ended, TakesData, TookData};
 
+use constants::{HELD_WORDS, QUEUE_WORDS, SENT_WORDS};
 use deliver_acks::Acks;
 use deliver_notes::counted_data;
 use error::UdxError;
@@ -25,7 +26,7 @@ pub fn on_sack(
     t: Totals,
     clock: Nanos,
     h: Header,
-    sent: &mut [u64; 64],
+    sent: &mut [u64; SENT_WORDS],
     payload: &[u8],
 ) -> Delivered
     requires { Measured s clock.0 }
@@ -62,7 +63,7 @@ pub fn on_end(
     s: Stream,
     t: Totals,
     h: Header,
-    queue: &mut [u64; 128],
+    queue: &mut [u64; QUEUE_WORDS],
     headers: &mut [u8],
 ) -> Delivered
     requires { Pushable s.queue (length headers.old) }
@@ -99,8 +100,8 @@ pub fn on_data(
     s: Stream,
     t: Totals,
     h: Header,
-    held: &mut [u64; 32],
-    queue: &mut [u64; 128],
+    held: &mut [u64; HELD_WORDS],
+    queue: &mut [u64; QUEUE_WORDS],
     incoming: &mut [u8],
     headers: &mut [u8],
     payload: &[u8],

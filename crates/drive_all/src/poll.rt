@@ -2,6 +2,7 @@
 ghost use Rattle.std.specs.Prelude.{◌≡◌};
 ghost use Rattle.drive_all.specs.Poll.{driven_at, CanDrive, Begun, Flushable, PollFlushes, Polls};
 
+use constants::{QUEUE_WORDS, SENT_WORDS};
 use drive_settle::{Polled, handle_incoming_max_remote_ack};
 use drive_timeouts::poll_check_timeouts;
 use records::{Clocks, Stream, Totals};
@@ -25,8 +26,8 @@ fn before_flush(
     s: Stream,
     t: Totals,
     clock: Nanos,
-    sent: &mut [u64; 64],
-    queue: &mut [u64; 128],
+    sent: &mut [u64; SENT_WORDS],
+    queue: &mut [u64; QUEUE_WORDS],
     headers: &mut [u8],
 ) -> Polled
     requires { CanDrive s clock.0 sent.old queue.old headers.old }
@@ -41,7 +42,7 @@ fn before_flush(
 }
 
 // Queues waiting packets, and leaves everything queued to take.
-fn flush(s: Stream, sent: &mut [u64; 64], queue: &mut [u64; 128]) -> Stream
+fn flush(s: Stream, sent: &mut [u64; SENT_WORDS], queue: &mut [u64; QUEUE_WORDS]) -> Stream
     requires { Flushable s sent.old queue.old }
     ensures { PollFlushes s sent.old queue.old result sent.new queue.new }
 {
@@ -63,8 +64,8 @@ pub fn poll_drive(
     s: Stream,
     t: Totals,
     clock: Nanos,
-    sent: &mut [u64; 64],
-    queue: &mut [u64; 128],
+    sent: &mut [u64; SENT_WORDS],
+    queue: &mut [u64; QUEUE_WORDS],
     headers: &mut [u8],
 ) -> Polled
     requires { CanDrive s clock.0 sent.old queue.old headers.old }

@@ -4,11 +4,12 @@
 ghost use Rattle.std.specs.Prelude.{◌≡◌};
 ghost use Rattle.drive_drain.specs.Draining.{AnyStored, Drains, LeavesToTake};
 
+use constants::SENT_WORDS;
 use error::UdxError;
 use records::{Queue, Sender};
 
 // Whether a packet is stored: !outgoing.is_empty().
-pub fn any_stored(s: Sender, sent: &[u64; 64]) -> bool
+pub fn any_stored(s: Sender, sent: &[u64; SENT_WORDS]) -> bool
     ensures { AnyStored s sent.now result }
 {
     let mut n = s.remote_acked;
@@ -23,7 +24,7 @@ pub fn any_stored(s: Sender, sent: &[u64; 64]) -> bool
 }
 
 // Whether an error is set and queue and outgoing store are empty. Nothing is left to take, so the queue has `count` entries.
-pub fn drained(error: UdxError, q: Queue, s: Sender, sent: &[u64; 64]) -> bool
+pub fn drained(error: UdxError, q: Queue, s: Sender, sent: &[u64; SENT_WORDS]) -> bool
     requires { q.left ≡ 0 }
     ensures { Drains error q s sent.now result }
 {

@@ -5,6 +5,7 @@ ghost use Rattle.std.specs.Prelude.{◌≡◌, ◌&&◌, ◌+◌, ◌<◌, leb};
 ghost use Rattle.records_words.specs.Words.{is_stored};
 ghost use Rattle.drive_flush.specs.Flushing.{flushed_packet, flushed_entry, with_count, flushed_of, FlushesPacket, Roomy, Flushes};
 
+use constants::{QUEUE_WORDS, SENT_WORDS};
 use drive_lost::with_inflight;
 use picks::fits;
 use records::{Entry, Queue, Sender, Sent, expose_length};
@@ -73,7 +74,7 @@ fn with_flushed(s: Sender, q: Queue, inflight: u32, count: u32) -> Flushed
 }
 
 // The packet is no longer waiting, and becomes the queue's entry `at`.
-fn flush_packet(p: Sent, at: u32, sent: &mut [u64; 64], queue: &mut [u64; 128])
+fn flush_packet(p: Sent, at: u32, sent: &mut [u64; SENT_WORDS], queue: &mut [u64; QUEUE_WORDS])
     requires { at < 128 }
     ensures { FlushesPacket p at sent.old queue.old sent.new queue.new }
 {
@@ -85,8 +86,8 @@ fn flush_packet(p: Sent, at: u32, sent: &mut [u64; 64], queue: &mut [u64; 128])
 pub fn flush_waiting_packets(
     s: Sender,
     q: Queue,
-    sent: &mut [u64; 64],
-    queue: &mut [u64; 128],
+    sent: &mut [u64; SENT_WORDS],
+    queue: &mut [u64; QUEUE_WORDS],
 ) -> Flushed
     requires { Roomy s q sent.old }
     ensures { Flushes s q sent.old queue.old result sent.new queue.new }

@@ -5,7 +5,7 @@ ghost use Rattle.drive_lost.specs.Packets.{AllSentBounds};
 ghost use Rattle.drive_lost.specs.Timeouts.{lost_packet, TimesOutPackets};
 
 use crate::inflight::with_inflight;
-use constants::UDX_MAX_TRANSMITS;
+use constants::{SENT_WORDS, UDX_MAX_TRANSMITS};
 use picks::less;
 use records::{Sender, Sent, expose_length};
 
@@ -45,7 +45,7 @@ fn lost_packet(p: Sent) -> Sent
 
 // Marks the stored packets that are not waiting, ascending: each gains a transmit, waits and leaves inflight, up to the first that has no
 // transmits left. Packets marked before it stay marked.
-pub fn time_out_packets(s: Sender, sent: &mut [u64; 64]) -> Passed
+pub fn time_out_packets(s: Sender, sent: &mut [u64; SENT_WORDS]) -> Passed
     requires { AllSentBounds s sent.old }
     ensures { TimesOutPackets s sent.old result sent.new }
 {

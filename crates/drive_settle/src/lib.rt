@@ -6,6 +6,7 @@ ghost use Rattle.rtt.specs.Estimate.{InRange};
 ghost use Rattle.deliver_acks.specs.Acked.{Timed, InWindow};
 ghost use Rattle.drive_settle.specs.Settling.{past_one, no_ack_sender, SettlesOne, Settleable, Settles, Restarts, Acked, Settled};
 
+use constants::SENT_WORDS;
 use deliver_acks::Acks;
 use records::{Sender, Stream, Timing, Totals};
 use rtt::Nanos;
@@ -32,7 +33,7 @@ fn past_one(s: Sender) -> Sender
 }
 
 // Settles the lowest number: its packet leaves if it is stored, and remote acked moves past it.
-fn settle_one(a: Acks, clock: Nanos, sent: &mut [u64; 64]) -> Acks
+fn settle_one(a: Acks, clock: Nanos, sent: &mut [u64; SENT_WORDS]) -> Acks
     requires { Timed a clock.0 × InWindow a.sender a.sender.remote_acked }
     ensures { SettlesOne clock.0 a sent.old result sent.new }
 {
@@ -50,7 +51,7 @@ fn settle_one(a: Acks, clock: Nanos, sent: &mut [u64; 64]) -> Acks
 }
 
 // Settles the numbers from remote acked to below `to`, ascending.
-fn settle_numbers(a: Acks, clock: Nanos, sent: &mut [u64; 64], to: u32) -> Acks
+fn settle_numbers(a: Acks, clock: Nanos, sent: &mut [u64; SENT_WORDS], to: u32) -> Acks
     requires { Timed a clock.0 × Settleable a.sender to }
     ensures { Settles clock.0 to a sent.old result sent.new }
 {
@@ -100,7 +101,7 @@ pub fn handle_incoming_max_remote_ack(
     s: Stream,
     t: Totals,
     clock: Nanos,
-    sent: &mut [u64; 64],
+    sent: &mut [u64; SENT_WORDS],
 ) -> Polled
     requires { Acked s clock.0 }
     ensures { Settled s t clock.0 sent.old result sent.new }

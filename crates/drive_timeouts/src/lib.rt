@@ -6,6 +6,7 @@ ghost use Rattle.close_state.specs.State.{Pushable};
 ghost use Rattle.drive_timeouts.specs.Timeouts.{Losable, Loses, TimesOutStream, Checkable, Checked};
 ghost use Rattle.std.specs.Prelude.{length};
 
+use constants::{QUEUE_WORDS, SENT_WORDS};
 use drive_settle::Polled;
 use error::UdxError;
 use records::{Stream, Totals};
@@ -19,7 +20,7 @@ pub struct Lost {
 }
 
 // "deadline = now + 2 × rto, the window becomes max(1,400, half)", and the stored packets wait again.
-fn consider_lost(s: Stream, clock: Nanos, sent: &mut [u64; 64]) -> Lost
+fn consider_lost(s: Stream, clock: Nanos, sent: &mut [u64; SENT_WORDS]) -> Lost
     requires { Losable s clock.0 sent.old }
     ensures { Loses s clock.0 sent.old result sent.new }
 {
@@ -39,7 +40,7 @@ fn consider_lost(s: Stream, clock: Nanos, sent: &mut [u64; 64]) -> Lost
 }
 
 // "TimedOut terminates as in terminate"
-fn timed_out(s: Stream, t: Totals, queue: &mut [u64; 128], headers: &mut [u8]) -> Polled
+fn timed_out(s: Stream, t: Totals, queue: &mut [u64; QUEUE_WORDS], headers: &mut [u8]) -> Polled
     requires { Pushable s.queue (length headers.old) }
     ensures { TimesOutStream s t queue.old headers.old result queue.new
         headers.new }
@@ -71,8 +72,8 @@ pub fn poll_check_timeouts(
     s: Stream,
     t: Totals,
     clock: Nanos,
-    sent: &mut [u64; 64],
-    queue: &mut [u64; 128],
+    sent: &mut [u64; SENT_WORDS],
+    queue: &mut [u64; QUEUE_WORDS],
     headers: &mut [u8],
 ) -> Polled
     requires { Checkable s clock.0 sent.old headers.old }

@@ -2,7 +2,7 @@
 ghost use Rattle.std.specs.Prelude.{◌≡◌};
 ghost use Rattle.packet.specs.Header.{header_bytes, decoded, Encodes, has_type};
 
-use crate::little_endian::{low, read_u32_le};
+use crate::little_endian::{low_byte, read_u32_le};
 use constants::{
     UDX_HEADER_DATA, UDX_HEADER_END, UDX_HEADER_SACK, UDX_HEADER_SIZE, UDX_MAGIC_BYTE, UDX_VERSION,
 };
@@ -62,22 +62,22 @@ impl Header {
             UDX_VERSION,
             self.typ,
             self.data_offset,
-            low(id),
-            low(id / 256),
-            low(id / 256 / 256),
-            low(id / 256 / 256 / 256),
-            low(win),
-            low(win / 256),
-            low(win / 256 / 256),
-            low(win / 256 / 256 / 256),
-            low(seq),
-            low(seq / 256),
-            low(seq / 256 / 256),
-            low(seq / 256 / 256 / 256),
-            low(ack),
-            low(ack / 256),
-            low(ack / 256 / 256),
-            low(ack / 256 / 256 / 256),
+            low_byte(id),
+            low_byte(id / 256),
+            low_byte(id / 256 / 256),
+            low_byte(id / 256 / 256 / 256),
+            low_byte(win),
+            low_byte(win / 256),
+            low_byte(win / 256 / 256),
+            low_byte(win / 256 / 256 / 256),
+            low_byte(seq),
+            low_byte(seq / 256),
+            low_byte(seq / 256 / 256),
+            low_byte(seq / 256 / 256 / 256),
+            low_byte(ack),
+            low_byte(ack / 256),
+            low_byte(ack / 256 / 256),
+            low_byte(ack / 256 / 256 / 256),
         ]
     }
 

@@ -18,7 +18,7 @@ pub fn read_u32_le(buf: &[u8], at: usize) -> u32
 }
 
 // The lowest byte of a number.
-pub fn low(v: u32) -> u8
+pub fn low_byte(v: u32) -> u8
     ensures { result ≡ v % 256 }
 {
     (v % 256) as u8

@@ -14,6 +14,7 @@ ghost use Rattle.read_bytes.specs.Reading.{
   left_bytes,
 };
 
+use constants::HELD_WORDS;
 use records::{Held, Receiver, expose_length};
 
 // What a read did.
@@ -49,7 +50,7 @@ fn put_next(buf: &mut [u8], at: usize, incoming: &[u8], p: Held, count: u32)
 
 // Puts the front part of a packet that is longer than what remains of the buffer, and moves its read offset past that part. This fills
 // the buffer.
-fn read_front(held: &mut [u64; 32], incoming: &[u8], buf: &mut [u8], at: usize, p: Held)
+fn read_front(held: &mut [u64; HELD_WORDS], incoming: &[u8], buf: &mut [u8], at: usize, p: Held)
     requires { CanPut p incoming.now buf.old at (length buf.old - at) }
     ensures { Front p incoming.now at held.old buf.old held.new
         buf.new }
@@ -67,7 +68,7 @@ fn read_front(held: &mut [u64; 32], incoming: &[u8], buf: &mut [u8], at: usize, 
 
 // Puts what is held in order into buf, from the read cursor on: whole packets while they fit, and the front part of the next one. A
 // finished packet's word stays: once the read cursor is past its number, it no longer counts.
-pub fn read_next(r: Receiver, held: &mut [u64; 32], incoming: &[u8], buf: &mut [u8]) -> Read
+pub fn read_next(r: Receiver, held: &mut [u64; HELD_WORDS], incoming: &[u8], buf: &mut [u8]) -> Read
     requires { Readable r held.old incoming.now }
     ensures { HasRead r held.old incoming.now buf.old result held.new
         buf.new }

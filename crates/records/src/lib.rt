@@ -8,6 +8,7 @@ pub mod open;
 use error::{Outcome, UdxError};
 pub use errors::is_set;
 pub use open::Opened;
+pub use records_places::slot;
 pub use records_words::{
     Entry, Held, Sent, clear_held, clear_sent, expose_length, get_entry, get_held, get_sent,
     is_held, is_short, is_sized, is_stored, least, put_entry, put_held, put_sent, same_packet,

@@ -98,7 +98,7 @@ fn fresh_stream(local: u32, remote: u32, segments: u8, clock: Nanos) -> Stream
 }
 
 // A refused open returns a stream that every call refuses with 1 (look shows nothing): its segment ceiling is 0.
-fn refused(why: Refusal) -> Opened
+fn refused_open(why: Refusal) -> Opened
     ensures { result ≡ refused_open why }
 {
     let outcome = Outcome::Refused(why);
@@ -123,22 +123,22 @@ pub fn open(
         headers.now result }
 {
     if outgoing.len() != OUTGOING_STORE {
-        return refused(Refusal::BrokenRecords);
+        return refused_open(Refusal::BrokenRecords);
     }
     if incoming.len() != INCOMING_STORE {
-        return refused(Refusal::BrokenRecords);
+        return refused_open(Refusal::BrokenRecords);
     }
     if headers.len() != HEADER_STORE {
-        return refused(Refusal::BrokenRecords);
+        return refused_open(Refusal::BrokenRecords);
     }
     if segments < 1 {
-        return refused(Refusal::SegmentCeiling);
+        return refused_open(Refusal::SegmentCeiling);
     }
     if MAX_SEGMENTS < segments {
-        return refused(Refusal::SegmentCeiling);
+        return refused_open(Refusal::SegmentCeiling);
     }
     if CLOCK_END <= clock.0 {
-        return refused(Refusal::BadClock);
+        return refused_open(Refusal::BadClock);
     }
     let outcome = Outcome::Ready;
     Opened {

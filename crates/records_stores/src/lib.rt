@@ -5,8 +5,9 @@ ghost use Rattle.std.specs.Prelude.{◌≡◌, ◌++◌, ◌+◌, ◌-◌, ◌*�
 ghost use Rattle.packet.specs.Header.{header_bytes};
 ghost use Rattle.records.specs.Put.{put};
 
-use constants::{INCOMING_SLOT, OUTGOING_SLOT, UDX_HEADER_SIZE};
+use constants::{OUTGOING_SLOT, UDX_HEADER_SIZE};
 use packet::Header;
+use records_places::{header_at, held_at, stored_at};
 
 // Copies all of src into dst from `at` on; the rest of dst stays.
 pub fn put_at(dst: &mut [u8], at: usize, src: &[u8])
@@ -42,7 +43,7 @@ pub fn put_payload(incoming: &mut [u8], n: u32, payload: &[u8])
     requires { (length incoming.old ≡ 44_160) × (length payload.now ≤ 1_380) }
     ensures { incoming.new ≡ put incoming.old (n % 32 * 1_380) payload.now }
 {
-    let at = (n % 32) as usize * INCOMING_SLOT;
+    let at = held_at(n);
     put_at(incoming, at, payload);
 }
 
@@ -51,7 +52,7 @@ pub fn put_header(headers: &mut [u8], place: u32, h: Header)
     requires { (length headers.old ≡ 1_280) × (place < 64) }
     ensures { headers.new ≡ put headers.old (place * 20) (header_bytes h) }
 {
-    let at = place as usize * UDX_HEADER_SIZE;
+    let at = header_at(place);
     let head = h.to_bytes();
     put_at(headers, at, &head);
 }
@@ -61,7 +62,7 @@ pub fn packet_bytes(outgoing: &[u8], n: u32, size: u32) -> &[u8]
     requires { (length outgoing.now ≡ 44_800) × (size ≤ 1_400) }
     ensures { result.now ≡ take size (drop (n % 32 * 1_400) outgoing.now) }
 {
-    let at = (n % 32) as usize * OUTGOING_SLOT;
+    let at = stored_at(n);
     let end = at + size as usize;
     &outgoing[at..end]
 }
@@ -71,7 +72,7 @@ pub fn payload_bytes(incoming: &[u8], n: u32, from: u32, to: u32) -> &[u8]
     requires { (length incoming.now ≡ 44_160) × (from ≤ to) × (to ≤ 1_380) }
     ensures { result.now ≡ take (to - from) (drop (n % 32 * 1_380 + from) incoming.now) }
 {
-    let at = (n % 32) as usize * INCOMING_SLOT;
+    let at = held_at(n);
     let start = at + from as usize;
     let end = at + to as usize;
     &incoming[start..end]
@@ -82,7 +83,7 @@ pub fn header_bytes(headers: &[u8], place: u32) -> &[u8]
     requires { (length headers.now ≡ 1_280) × (place < 64) }
     ensures { result.now ≡ take 20 (drop (place * 20) headers.now) }
 {
-    let at = place as usize * UDX_HEADER_SIZE;
+    let at = header_at(place);
     let end = at + UDX_HEADER_SIZE;
     &headers[at..end]
 }

@@ -1,13 +1,13 @@
 // Packets and queue entries as words. This crate alone knows the bits; everything else works on `Sent`, `Held` and `Entry` by value,
 // and finds a packet by its number.
 //
-//   sent[i]       number * 2^32 + length * 64 + transmits * 2 + waiting, of the packet in slot i of the outgoing store
-//   sent[32 + i]  its time sent + 1, or 0 for none
-//   held[i]       number * 2^32 + (length + 1) * 2^16 + offset, of the packet in slot i of the incoming store
-//   queue[i]      number * 2^32 + length * 64 + state
+//   sent[i]          number * 2^32 + length * 64 + transmits * 2 + waiting, of the packet in slot i of the outgoing store
+//   sent[SLOTS + i]  its time sent + 1, or 0 for none
+//   held[i]          number * 2^32 + (length + 1) * 2^16 + offset, of the packet in slot i of the incoming store
+//   queue[i]         number * 2^32 + length * 64 + state
 //
 // Number and length occupy the same bits in a packet's word and in its queue entry, so one comparison checks both.
-// A packet's slot is its number mod 32. A word with another number, or with 0 in the length field, is not that packet.
+// A packet's slot is its number mod the number of slots. A word with another number, or with 0 in the length field, is not that packet.
 #![tactic(auto)]
 
 mod lengths;
@@ -29,8 +29,12 @@ ghost use Rattle.records_words.specs.Words.{
   same_packet,
 };
 
+use constants::{HELD_WORDS, QUEUE_WORDS, SENT_WORDS, STORE_SLOTS};
 pub use lengths::{expose_length, least, word_count};
+use records_places::slot;
 use rtt::Nanos;
+
+const SLOTS: usize = STORE_SLOTS as usize;
 
 // A packet of the outgoing store.
 #[derive(Clone, Copy)]
@@ -60,12 +64,6 @@ pub struct Entry {
     pub number: u32,
     pub length: u32,
     pub state: bool,
-}
-
-fn slot(n: u32) -> usize
-    ensures { (result ≡ n % 32) × (result < 32) }
-{
-    (n % 32) as usize
 }
 
 // The upper and the lower 32 bits of a word.
@@ -117,11 +115,11 @@ fn sent_of(w: u64, time: u64) -> Sent
 }
 
 // The contents of the slot of number n.
-pub fn get_sent(sent: &[u64; 64], n: u32) -> Sent
+pub fn get_sent(sent: &[u64; SENT_WORDS], n: u32) -> Sent
     ensures { result ≡ sent_of (slice_index sent.now (n % 32)) (slice_index sent.now (32 + n % 32)) }
 {
     let i = slot(n);
-    sent_of(sent[i], sent[32 + i])
+    sent_of(sent[i], sent[SLOTS + i])
 }
 
 // Whether p is packet n.
@@ -132,7 +130,7 @@ pub fn is_stored(p: Sent, n: u32) -> bool
 }
 
 // Whether the slot of number n holds packet n with a length from least to most.
-pub fn is_sized(sent: &[u64; 64], n: u32, least: u32, most: u32) -> bool
+pub fn is_sized(sent: &[u64; SENT_WORDS], n: u32, least: u32, most: u32) -> bool
     requires { (least ≤ most) × (most < 67_108_864) }
     ensures { result ≡ is_sized (sent_in sent.now (n % 32)) n least most }
 {
@@ -160,7 +158,7 @@ fn sent_time(p: Sent) -> u64
 }
 
 // Puts a packet into the slot of its number.
-pub fn put_sent(sent: &mut [u64; 64], p: Sent)
+pub fn put_sent(sent: &mut [u64; SENT_WORDS], p: Sent)
     ensures { sent.new ≡ set (slice_set sent.old (p.number % 32) (sent_word p))
         (32 + p.number % 32) (sent_time p) }
 {
@@ -168,11 +166,11 @@ pub fn put_sent(sent: &mut [u64; 64], p: Sent)
     let w = sent_word(p);
     let t = sent_time(p);
     sent[i] = w;
-    sent[32 + i] = t;
+    sent[SLOTS + i] = t;
 }
 
 // Empties the slot of number n.
-pub fn clear_sent(sent: &mut [u64; 64], n: u32)
+pub fn clear_sent(sent: &mut [u64; SENT_WORDS], n: u32)
     ensures { sent.new ≡ slice_set sent.old (n % 32) 0 }
 {
     let i = slot(n);
@@ -192,7 +190,7 @@ fn held_of(w: u64) -> Held
     }
 }
 
-pub fn get_held(held: &[u64; 32], n: u32) -> Held
+pub fn get_held(held: &[u64; HELD_WORDS], n: u32) -> Held
     ensures { result ≡ held_of (slice_index held.now (n % 32)) }
 {
     held_of(held[slot(n)])
@@ -205,7 +203,7 @@ pub fn is_held(p: Held, n: u32) -> bool
 }
 
 // Whether the slot of number n holds packet n with at most `most` bytes.
-pub fn is_short(held: &[u64; 32], n: u32, most: u32) -> bool
+pub fn is_short(held: &[u64; HELD_WORDS], n: u32, most: u32) -> bool
     requires { most < 65_535 }
     ensures { result ≡ is_short (held_of (slice_index held.now (n % 32))) n most }
 {
@@ -222,7 +220,7 @@ fn held_word(p: Held) -> u64
     word(p.number, p.past % 65_536 * 65_536 + p.offset % 65_536)
 }
 
-pub fn put_held(held: &mut [u64; 32], p: Held)
+pub fn put_held(held: &mut [u64; HELD_WORDS], p: Held)
     ensures { held.new ≡ slice_set held.old (p.number % 32) (held_word p) }
 {
     let i = slot(p.number);
@@ -230,7 +228,7 @@ pub fn put_held(held: &mut [u64; 32], p: Held)
     held[i] = w;
 }
 
-pub fn clear_held(held: &mut [u64; 32], n: u32)
+pub fn clear_held(held: &mut [u64; HELD_WORDS], n: u32)
     ensures { held.new ≡ slice_set held.old (n % 32) 0 }
 {
     let i = slot(n);
@@ -250,7 +248,7 @@ fn entry_of(w: u64) -> Entry
     }
 }
 
-pub fn get_entry(queue: &[u64; 128], i: usize) -> Entry
+pub fn get_entry(queue: &[u64; QUEUE_WORDS], i: usize) -> Entry
     requires { i < 128 }
     ensures { result ≡ entry_of (slice_index queue.now i) }
 {
@@ -258,7 +256,7 @@ pub fn get_entry(queue: &[u64; 128], i: usize) -> Entry
 }
 
 // Whether the word in the slot of entry i's number has that number and length.
-pub fn same_packet(queue: &[u64; 128], i: usize, sent: &[u64; 64]) -> bool
+pub fn same_packet(queue: &[u64; QUEUE_WORDS], i: usize, sent: &[u64; SENT_WORDS]) -> bool
     requires { i < 128 }
     ensures { result ≡ same_packet (sent_in sent.now ((entry_of (slice_index queue.now i)).number % 32))
         (entry_of (slice_index queue.now i)) }
@@ -275,7 +273,7 @@ fn entry_word(x: Entry) -> u64
     word(x.number, x.length % 65_536 * 64 + bit(x.state))
 }
 
-pub fn put_entry(queue: &mut [u64; 128], i: usize, x: Entry)
+pub fn put_entry(queue: &mut [u64; QUEUE_WORDS], i: usize, x: Entry)
     requires { i < 128 }
     ensures { queue.new ≡ slice_set queue.old i (entry_word x) }
 {

@@ -5,7 +5,9 @@ ghost use Rattle.std.specs.Prelude.{◌≡◌, length};
 ghost use Rattle.records.specs.Open.{stores_test};
 ghost use Rattle.rules_lent.specs.Broken.{broken_records, lent};
 
-use constants::{HEADER_STORE, INCOMING_STORE, OUTGOING_STORE};
+use constants::{
+    HEADER_STORE, HELD_WORDS, INCOMING_STORE, OUTGOING_STORE, QUEUE_WORDS, SENT_WORDS,
+};
 use records::{Stream, Totals, word_count};
 
 // "A lent store has another length than above"
@@ -23,9 +25,9 @@ fn stores_differ(outgoing: &[u8], incoming: &[u8], headers: &[u8]) -> bool
 pub fn broken(
     s: Stream,
     t: Totals,
-    sent: &[u64; 64],
-    held: &[u64; 32],
-    queue: &[u64; 128],
+    sent: &[u64; SENT_WORDS],
+    held: &[u64; HELD_WORDS],
+    queue: &[u64; QUEUE_WORDS],
     outgoing: &[u8],
     incoming: &[u8],
     headers: &[u8],
@@ -36,7 +38,7 @@ pub fn broken(
         × (length queue.now ≡ 128) }
 {
     // Unreachable: tells the prover the length.
-    if word_count(queue) != 128 {
+    if word_count(queue) != QUEUE_WORDS {
         return true;
     }
     if stores_differ(outgoing, incoming, headers) {

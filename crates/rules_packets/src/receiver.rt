@@ -2,11 +2,14 @@
 ghost use Rattle.std.specs.Prelude.{◌≡◌, true, ◌&&◌, ◌+◌, ◌-◌, ◌≤◌};
 ghost use Rattle.rules_packets.specs.Packets.{every_from, held_ok, ok_receiver};
 
+use constants::{HELD_WORDS, STORE_SLOTS};
 use picks::both;
 use records::Receiver;
 
+const SLOTS: u64 = STORE_SLOTS as u64;
+
 // Checks the held packets, which are from the cursor to below top, each in the slot of its number.
-fn all_held(cursor: u32, top: u32, held: &[u64; 32]) -> bool
+fn all_held(cursor: u32, top: u32, held: &[u64; HELD_WORDS]) -> bool
     requires { top ≤ cursor + 32 }
     ensures { result ≡ every_from (top - cursor) cursor (held_ok cursor held.now) }
 {
@@ -29,11 +32,11 @@ fn all_held(cursor: u32, top: u32, held: &[u64; 32]) -> bool
     true
 }
 
-pub fn ok_receiver(r: Receiver, held: &[u64; 32]) -> bool
+pub fn ok_receiver(r: Receiver, held: &[u64; HELD_WORDS]) -> bool
     ensures { result ≡ ok_receiver r held.now }
 {
     let cursor = r.read_cursor;
-    let far = cursor as u64 + 32;
+    let far = cursor as u64 + SLOTS;
     // Held numbers are below top, which is at most 32 past the read cursor.
     if far < r.top as u64 {
         return false;

@@ -3,7 +3,7 @@ ghost use Rattle.std.specs.Prelude.{◌≡◌, false, ◌+◌, ◌≤◌};
 ghost use Rattle.rules_packets.specs.Packets.{ok_sender};
 ghost use Rattle.rules_packets.specs.Passes.{in_time, StoredSums};
 
-use constants::{CWND_MAX, STORE_SLOTS, UDX_MTU};
+use constants::{CWND_MAX, SENT_WORDS, STORE_SLOTS, UDX_MTU};
 use picks::{both, pick32};
 use records::{Sender, Sent, Totals};
 use rtt::Nanos;
@@ -29,7 +29,7 @@ fn in_time(p: Sent, clock: Nanos) -> bool
 }
 
 // A packet that breaks a rule ends the pass.
-fn broken() -> Sums
+fn broken_sums() -> Sums
     ensures { result.good ≡ false }
 {
     Sums {
@@ -41,7 +41,7 @@ fn broken() -> Sums
 }
 
 // Checks and sums the stored packets, which are from acked to below seq, each in the slot of its number.
-fn stored(acked: u32, seq: u32, clock: Nanos, sent: &[u64; 64]) -> Sums
+fn stored(acked: u32, seq: u32, clock: Nanos, sent: &[u64; SENT_WORDS]) -> Sums
     requires { seq ≤ acked + 32 }
     ensures { StoredSums acked seq clock.0 sent.now result.good result.inflight result.packets result.bytes }
 {
@@ -63,7 +63,7 @@ fn stored(acked: u32, seq: u32, clock: Nanos, sent: &[u64; 64]) -> Sums
             lengths += p.length as u64;
         } else {
             if here {
-                return broken();
+                return broken_sums();
             }
         }
     }
@@ -75,7 +75,7 @@ fn stored(acked: u32, seq: u32, clock: Nanos, sent: &[u64; 64]) -> Sums
     }
 }
 
-pub fn ok_sender(s: Sender, t: Totals, clock: Nanos, sent: &[u64; 64]) -> bool
+pub fn ok_sender(s: Sender, t: Totals, clock: Nanos, sent: &[u64; SENT_WORDS]) -> bool
     ensures { result ≡ ok_sender s t clock.0 sent.now }
 {
     let acked = s.remote_acked;

@@ -3,9 +3,11 @@ ghost use Rattle.std.specs.Prelude.{◌≡◌, ◌&&◌, leb, ltb, ◌+◌, ◌�
 ghost use Rattle.rules_queue.specs.Entries.{places_ok, ok_queue};
 ghost use Rattle.rules_queue.specs.Passes.{sized, queued_ok, EntriesPassed};
 
-use constants::{STATE_PACKETS, UDX_MTU};
+use constants::{QUEUE_WORDS, SENT_WORDS, STATE_PACKETS, STORE_SLOTS, UDX_MTU};
 use picks::{both, implies, less, pick, pick32};
 use records::{Entry, Queue, Sender};
+
+const SLOTS: usize = STORE_SLOTS as usize;
 
 // What the pass over the entries finds: whether each keeps its rules, whether the packets' numbers are distinct and from remote acked to
 // below seq, and how many state packets there are.
@@ -24,7 +26,7 @@ fn sized(size: u32) -> bool
 }
 
 // An entry that is not a state packet; `near`: its number is from remote acked to below seq.
-fn queued_ok(near: bool, x: Entry, sent: &[u64; 64]) -> bool
+fn queued_ok(near: bool, x: Entry, sent: &[u64; SENT_WORDS]) -> bool
     ensures { result ≡ queued_ok near sent.now x }
 {
     let p = records::get_sent(sent, x.number);
@@ -50,14 +52,14 @@ fn entries(
     end: usize,
     acked: u32,
     seq: u32,
-    queue: &[u64; 128],
-    sent: &[u64; 64],
+    queue: &[u64; QUEUE_WORDS],
+    sent: &[u64; SENT_WORDS],
 ) -> QueuePass
     requires { (end ≤ 128) × (end ≤ length queue.now) × (seq ≤ acked + 32) }
     ensures { EntriesPassed acked seq sent.now (drop first (take end queue.now)) result.good
         result.fresh result.states }
 {
-    let mut marks = [false; 32];
+    let mut marks = [false; SLOTS];
     let mut good = true;
     let mut fresh = true;
     let mut states: u32 = 0;
@@ -70,7 +72,7 @@ fn entries(
             states += 1;
         } else {
             let n = x.number;
-            let slot = (n % 32) as usize;
+            let slot = records::slot(n);
             if both(plain(acked, seq, x, same), !marks[slot]) {
                 marks[slot] = true;
             } else {
@@ -99,7 +101,7 @@ fn places_ok(q: Queue, states: u32) -> bool
     )
 }
 
-pub fn ok_queue(q: Queue, s: Sender, queue: &[u64; 128], sent: &[u64; 64]) -> bool
+pub fn ok_queue(q: Queue, s: Sender, queue: &[u64; QUEUE_WORDS], sent: &[u64; SENT_WORDS]) -> bool
     requires { s.seq ≤ s.remote_acked + 32 }
     ensures { result ≡ ok_queue q s queue.now sent.now }
 {
@@ -118,7 +120,10 @@ pub fn ok_queue(q: Queue, s: Sender, queue: &[u64; 128], sent: &[u64; 64]) -> bo
     // "If none, the queue has distinct packet numbers from remote acked to below seq and at most 63 state packets"
     let at_rest = both(found.fresh, found.states <= 63);
     // "else at most 64 entries of each kind"
-    let to_take = both(found.states <= 64, less(many, found.states) <= 64);
+    let to_take = both(
+        found.states <= STATE_PACKETS,
+        less(many, found.states) <= 64,
+    );
     let kinds = pick(rest, at_rest, to_take);
     both(found.good, both(kinds, places_ok(q, found.states)))
 }

@@ -6,7 +6,7 @@ ghost use Rattle.std.specs.Prelude.{◌≡◌};
 ghost use Rattle.model.specs.Rules.{segments_range, rtt_ranges};
 ghost use Rattle.rules_stream.specs.Ok.{clocks_ok, ok_stream};
 
-use constants::{CLOCK_END, MAX_SEGMENTS, RTO_MAX, RTO_MIN};
+use constants::{CLOCK_END, HELD_WORDS, MAX_SEGMENTS, QUEUE_WORDS, RTO_MAX, RTO_MIN, SENT_WORDS};
 use picks::both;
 use records::{Clocks, Stream, Totals};
 use rtt::Rtt;
@@ -39,9 +39,9 @@ fn ok_clocks(k: Clocks) -> bool
 pub fn ok_stream(
     s: Stream,
     t: Totals,
-    sent: &[u64; 64],
-    held: &[u64; 32],
-    queue: &[u64; 128],
+    sent: &[u64; SENT_WORDS],
+    held: &[u64; HELD_WORDS],
+    queue: &[u64; QUEUE_WORDS],
 ) -> bool
     ensures { result ≡ ok_stream s t sent.now held.now queue.now }
 {

@@ -8,6 +8,9 @@
 
 ghost use Rattle.std.specs.Prelude.{◌+◌, ◌≤◌, length};
 
+use constants::{
+    HEADER_STORE, HELD_WORDS, INCOMING_STORE, OUTGOING_STORE, QUEUE_WORDS, SENT_WORDS,
+};
 use records::{Clocks, Queue, Receiver, Sender, Stream, Timing, Totals};
 use rtt::{Nanos, Rtt};
 use std::io;
@@ -17,9 +20,9 @@ use std::io::{Read, Write};
 struct Records {
     stream: Stream,
     totals: Totals,
-    sent: [u64; 64],
-    held: [u64; 32],
-    queue: [u64; 128],
+    sent: [u64; SENT_WORDS],
+    held: [u64; HELD_WORDS],
+    queue: [u64; QUEUE_WORDS],
 }
 
 #[derive(Clone, Copy)]
@@ -35,9 +38,9 @@ fn fresh(outgoing: &[u8], incoming: &[u8], headers: &[u8]) -> Records {
     Records {
         stream,
         totals,
-        sent: [0; 64],
-        held: [0; 32],
-        queue: [0; 128],
+        sent: [0; SENT_WORDS],
+        held: [0; HELD_WORDS],
+        queue: [0; QUEUE_WORDS],
     }
 }
 
@@ -133,15 +136,15 @@ fn put_number(s: Stream, field: u8, v: u64) -> Stream {
 fn put_word(r: Records, field: u8, index: u8, v: u64) -> Records {
     let mut t = r;
     if field == 36 {
-        let i = (index % 64) as usize;
+        let i = index as usize % SENT_WORDS;
         t.sent[i] = v;
     }
     if field == 37 {
-        let i = (index % 32) as usize;
+        let i = index as usize % HELD_WORDS;
         t.held[i] = v;
     }
     if field == 38 {
-        let i = (index % 128) as usize;
+        let i = index as usize % QUEUE_WORDS;
         t.queue[i] = v;
     }
     t
@@ -255,9 +258,9 @@ fn fill<R: Read>(from: &mut R, input: &mut [u8]) -> io::Result<usize> {
 fn main(rt: HostRuntime) -> io::Result<()> {
     let mut input = [0u8; 65_536];
     let n = fill(&mut rt.stdin(), &mut input)?;
-    let outgoing = [0u8; 44_800];
-    let incoming = [0u8; 44_160];
-    let headers = [0u8; 1_280];
+    let outgoing = [0u8; OUTGOING_STORE];
+    let incoming = [0u8; INCOMING_STORE];
+    let headers = [0u8; HEADER_STORE];
     let clean = fresh(&outgoing, &incoming, &headers);
     if n <= 65_536 {
         run(&mut rt.stdout(), &input[0..n], clean)?;

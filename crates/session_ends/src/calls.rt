@@ -7,6 +7,7 @@ ghost use Rattle.udx.specs.Look.{shown_of};
 ghost use Rattle.session_ends.specs.Calls.{stores, lent_of, stepped_of, Calls, CallsTake, CallsRead};
 
 use crate::SessionEnd;
+use constants::{HELD_WORDS, QUEUE_WORDS, SENT_WORDS};
 use error::Outcome;
 use rtt::Nanos;
 use udx::Step;
@@ -21,7 +22,13 @@ pub struct Called {
 }
 
 // An end after a step that left these words.
-fn stepped(e: SessionEnd, step: Step, sent: [u64; 64], held: [u64; 32], queue: [u64; 128]) -> Called
+fn stepped(
+    e: SessionEnd,
+    step: Step,
+    sent: [u64; SENT_WORDS],
+    held: [u64; HELD_WORDS],
+    queue: [u64; QUEUE_WORDS],
+) -> Called
     ensures { result ≡ stepped_of e step sent held queue }
 {
     let stream = step.stream;

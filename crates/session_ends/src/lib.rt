@@ -6,6 +6,7 @@ ghost use Rattle.session_ends.specs.Calls.{stores, Fresh};
 mod calls;
 
 pub use calls::{Called, close, deliver, drive, look, read, take, write};
+use constants::{HELD_WORDS, QUEUE_WORDS, SENT_WORDS};
 use records::{Stream, Totals};
 use rtt::Nanos;
 use session_kept::Kept;
@@ -14,9 +15,9 @@ use session_kept::Kept;
 pub struct SessionEnd {
     pub stream: Stream,
     pub totals: Totals,
-    pub sent: [u64; 64],
-    pub held: [u64; 32],
-    pub queue: [u64; 128],
+    pub sent: [u64; SENT_WORDS],
+    pub held: [u64; HELD_WORDS],
+    pub queue: [u64; QUEUE_WORDS],
     pub kept: Kept,
 }
 
@@ -38,9 +39,9 @@ pub fn fresh_end(
     SessionEnd {
         stream,
         totals,
-        sent: [0; 64],
-        held: [0; 32],
-        queue: [0; 128],
+        sent: [0; SENT_WORDS],
+        held: [0; HELD_WORDS],
+        queue: [0; QUEUE_WORDS],
         kept,
     }
 }

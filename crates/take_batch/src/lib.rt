@@ -6,7 +6,7 @@ ghost use Rattle.records_words.specs.Words.{entry_of};
 ghost use Rattle.records.specs.Seen.{entry_words};
 ghost use Rattle.take_batch.specs.Batch.{entry_size, Batched, Heads};
 
-use constants::UDX_HEADER_SIZE;
+use constants::{QUEUE_WORDS, UDX_HEADER_SIZE};
 use records::{Entry, Queue, expose_length, least};
 
 // The size of an entry's datagram; a state packet is a bare header.
@@ -21,7 +21,7 @@ fn entry_size(x: Entry) -> u32
 }
 
 // Entry i of those left to take, which are the last ones of the queue.
-pub fn left_entry(q: Queue, queue: &[u64; 128], i: u32) -> Entry
+pub fn left_entry(q: Queue, queue: &[u64; QUEUE_WORDS], i: u32) -> Entry
     requires { (i < q.left) × (q.left ≤ q.count) × (q.count ≤ 128) }
     ensures { result ≡ entry_of (get_or (entry_words q queue.now) i 0) }
 {
@@ -30,7 +30,7 @@ pub fn left_entry(q: Queue, queue: &[u64; 128], i: u32) -> Entry
 }
 
 // How many entries the next batch has: the run of entries of the first one's length, at most the ceiling and at most what is left.
-pub fn batch(q: Queue, segments: u8, queue: &[u64; 128]) -> u32
+pub fn batch(q: Queue, segments: u8, queue: &[u64; QUEUE_WORDS]) -> u32
     requires { (q.left ≤ q.count) × (q.count ≤ 128) × (1 ≤ q.left) }
     ensures { Batched q segments queue.now result }
 {
@@ -48,7 +48,7 @@ pub fn batch(q: Queue, segments: u8, queue: &[u64; 128]) -> u32
 }
 
 // The length of the first entry left to take: the segment size of its batch.
-pub fn head_length(q: Queue, queue: &[u64; 128]) -> u32
+pub fn head_length(q: Queue, queue: &[u64; QUEUE_WORDS]) -> u32
     requires { (q.left ≤ q.count) × (q.count ≤ 128) × (1 ≤ q.left) }
     ensures { Heads q queue.now result }
 {

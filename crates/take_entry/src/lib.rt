@@ -5,7 +5,7 @@ ghost use Rattle.std.specs.Prelude.{◌≡◌, ◌&&◌, ◌+◌, ◌<◌, ◌�
 ghost use Rattle.records_words.specs.Words.{is_stored};
 ghost use Rattle.take_entry.specs.Transmit.{taken_packet, TransmitBounds, TakesState, TakesPacket, CanTakeEntry, TakesEntry};
 
-use constants::UDX_HEADER_SIZE;
+use constants::{SENT_WORDS, UDX_HEADER_SIZE};
 use records::{Entry, Sender, Sent};
 use rtt::Nanos;
 
@@ -63,7 +63,7 @@ fn take_packet(
     p: Progress,
     packet: Sent,
     drive: Nanos,
-    sent: &mut [u64; 64],
+    sent: &mut [u64; SENT_WORDS],
     outgoing: &[u8],
     buf: &mut [u8],
 ) -> Progress
@@ -88,7 +88,7 @@ pub fn transmit(
     x: Entry,
     p: Progress,
     drive: Nanos,
-    sent: &mut [u64; 64],
+    sent: &mut [u64; SENT_WORDS],
     outgoing: &[u8],
     headers: &[u8],
     buf: &mut [u8],

@@ -17,7 +17,7 @@ ghost use Rattle.take_next.specs.Take.{
   ShowsNext,
 };
 
-use constants::UDX_HEADER_SIZE;
+use constants::{QUEUE_WORDS, SENT_WORDS, UDX_HEADER_SIZE};
 use records::{Queue, Sender, expose_length};
 use rtt::Nanos;
 use take_batch::{batch, head_length, left_entry};
@@ -32,8 +32,8 @@ fn to_transmit(
     s: Sender,
     k: u32,
     drive: Nanos,
-    sent: &mut [u64; 64],
-    queue: &[u64; 128],
+    sent: &mut [u64; SENT_WORDS],
+    queue: &[u64; QUEUE_WORDS],
     outgoing: &[u8],
     headers: &[u8],
     buf: &mut [u8],
@@ -104,8 +104,8 @@ pub fn next_batch(
     s: Sender,
     segments: u8,
     drive: Nanos,
-    sent: &mut [u64; 64],
-    queue: &[u64; 128],
+    sent: &mut [u64; SENT_WORDS],
+    queue: &[u64; QUEUE_WORDS],
     outgoing: &[u8],
     headers: &[u8],
     buf: &mut [u8],
@@ -138,7 +138,7 @@ struct Next {
 
 // The first entry left to take whose packet is there. A state packet always is, so the search passes none, and finds the first one queued,
 // whose place is `gone`.
-fn next_entry(q: Queue, s: Sender, sent: &[u64; 64], queue: &[u64; 128]) -> Next
+fn next_entry(q: Queue, s: Sender, sent: &[u64; SENT_WORDS], queue: &[u64; QUEUE_WORDS]) -> Next
     requires { QueueFormed q queue.now × AllTransmitBounds s sent.now 7 }
     ensures { Finds q s sent.now queue.now result }
 {
@@ -174,8 +174,8 @@ fn next_entry(q: Queue, s: Sender, sent: &[u64; 64], queue: &[u64; 128]) -> Next
 pub fn look_next<'a>(
     q: Queue,
     s: Sender,
-    sent: &[u64; 64],
-    queue: &[u64; 128],
+    sent: &[u64; SENT_WORDS],
+    queue: &[u64; QUEUE_WORDS],
     outgoing: &'a [u8],
     headers: &'a [u8],
 ) -> &'a [u8]

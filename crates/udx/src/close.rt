@@ -3,6 +3,7 @@ ghost use Rattle.model.specs.Sending as model;
 ghost use Rattle.rules_lent.specs.Broken.{lent};
 ghost use Rattle.udx.specs.Agree.{Answers};
 
+use constants::{HELD_WORDS, QUEUE_WORDS, SENT_WORDS};
 use error::{UdxError, Verdict};
 use records::{Stream, Totals};
 use rules_lent::broken;
@@ -13,9 +14,9 @@ use udx_steps::{Step, closed_step, refused};
 pub fn close(
     s: Stream,
     t: Totals,
-    sent: &[u64; 64],
-    held: &[u64; 32],
-    queue: &mut [u64; 128],
+    sent: &[u64; SENT_WORDS],
+    held: &[u64; HELD_WORDS],
+    queue: &mut [u64; QUEUE_WORDS],
     outgoing: &[u8],
     incoming: &[u8],
     headers: &mut [u8],

@@ -3,7 +3,7 @@ ghost use Rattle.model.specs.Receiving as model;
 ghost use Rattle.rules_lent.specs.Broken.{lent};
 ghost use Rattle.udx.specs.Agree.{Answers};
 
-use constants::UDX_HEADER_SIZE;
+use constants::{HELD_WORDS, QUEUE_WORDS, SENT_WORDS, UDX_HEADER_SIZE};
 use error::Verdict;
 use packet::{Decoded, Header};
 use records::{Stream, Totals};
@@ -15,9 +15,9 @@ use udx_steps::{Step, delivered_step, refused};
 pub fn deliver(
     s: Stream,
     t: Totals,
-    sent: &mut [u64; 64],
-    held: &mut [u64; 32],
-    queue: &mut [u64; 128],
+    sent: &mut [u64; SENT_WORDS],
+    held: &mut [u64; HELD_WORDS],
+    queue: &mut [u64; QUEUE_WORDS],
     outgoing: &[u8],
     incoming: &mut [u8],
     headers: &mut [u8],

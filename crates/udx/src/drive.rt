@@ -3,6 +3,7 @@ ghost use Rattle.model.specs.Driving as model;
 ghost use Rattle.rules_lent.specs.Broken.{lent};
 ghost use Rattle.udx.specs.Agree.{Answers};
 
+use constants::{HELD_WORDS, QUEUE_WORDS, SENT_WORDS};
 use error::Verdict;
 use records::{Stream, Totals};
 use rtt::Nanos;
@@ -13,9 +14,9 @@ use udx_steps::{Step, done_step, polled_step, refused};
 pub fn drive(
     s: Stream,
     t: Totals,
-    sent: &mut [u64; 64],
-    held: &[u64; 32],
-    queue: &mut [u64; 128],
+    sent: &mut [u64; SENT_WORDS],
+    held: &[u64; HELD_WORDS],
+    queue: &mut [u64; QUEUE_WORDS],
     outgoing: &[u8],
     incoming: &[u8],
     headers: &mut [u8],

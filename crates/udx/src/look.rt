@@ -3,6 +3,7 @@ ghost use Rattle.std.specs.Prelude.{◌≡◌};
 ghost use Rattle.rules_lent.specs.Broken.{lent};
 ghost use Rattle.udx.specs.Look.{shown_of};
 
+use constants::{HELD_WORDS, QUEUE_WORDS, SENT_WORDS};
 use records::{Stream, Totals};
 use rules_lent::broken;
 
@@ -11,9 +12,9 @@ use rules_lent::broken;
 pub fn look<'a>(
     s: Stream,
     t: Totals,
-    sent: &[u64; 64],
-    held: &[u64; 32],
-    queue: &[u64; 128],
+    sent: &[u64; SENT_WORDS],
+    held: &[u64; HELD_WORDS],
+    queue: &[u64; QUEUE_WORDS],
     outgoing: &'a [u8],
     incoming: &[u8],
     headers: &'a [u8],

@@ -2,6 +2,7 @@
 ghost use Rattle.rules_lent.specs.Broken.{lent};
 ghost use Rattle.udx.specs.Read.{Gives};
 
+use constants::{HELD_WORDS, QUEUE_WORDS, SENT_WORDS};
 use error::Refusal;
 use read_bytes::Read;
 use records::{Stream, Totals};
@@ -11,9 +12,9 @@ use udx_steps::{Step, read_step, refused};
 pub fn read(
     s: Stream,
     t: Totals,
-    sent: &[u64; 64],
-    held: &mut [u64; 32],
-    queue: &[u64; 128],
+    sent: &[u64; SENT_WORDS],
+    held: &mut [u64; HELD_WORDS],
+    queue: &[u64; QUEUE_WORDS],
     outgoing: &[u8],
     incoming: &[u8],
     headers: &[u8],

@@ -3,6 +3,7 @@ ghost use Rattle.model.specs.Sending as model;
 ghost use Rattle.rules_lent.specs.Broken.{lent};
 ghost use Rattle.udx.specs.Agree.{Answers};
 
+use constants::{HELD_WORDS, QUEUE_WORDS, SENT_WORDS};
 use error::Verdict;
 use records::{Stream, Totals};
 use rules_lent::broken;
@@ -12,9 +13,9 @@ use udx_steps::{Step, outbox, refused, written};
 pub fn write(
     s: Stream,
     t: Totals,
-    sent: &mut [u64; 64],
-    held: &[u64; 32],
-    queue: &mut [u64; 128],
+    sent: &mut [u64; SENT_WORDS],
+    held: &[u64; HELD_WORDS],
+    queue: &mut [u64; QUEUE_WORDS],
     outgoing: &mut [u8],
     incoming: &[u8],
     headers: &[u8],

@@ -17,6 +17,7 @@ ghost use Rattle.udx_c.specs.Crosses.{Crosses, FlatOpens};
 ghost use Rattle.udx_c.specs.Layout.{stream_fields, totals_fields, step_fields, count_from};
 ghost use Rattle.udx_c.specs.Shown.{Looks};
 
+use constants::{HELD_WORDS, QUEUE_WORDS, SENT_WORDS};
 use udx_c::{FlatDecoded, FlatHeader, FlatPart, Numbers};
 use udx_c_numbers::{FlatStep, FlatStream, FlatTotals};
 
@@ -40,9 +41,9 @@ pub extern "C" fn udx_open(
 pub extern "C" fn udx_write(
     stream: FlatStream,
     totals: FlatTotals,
-    sent: &mut [u64; 64],
-    held: &[u64; 32],
-    queue: &mut [u64; 128],
+    sent: &mut [u64; SENT_WORDS],
+    held: &[u64; HELD_WORDS],
+    queue: &mut [u64; QUEUE_WORDS],
     outgoing: &mut [u8],
     incoming: &[u8],
     headers: &[u8],
@@ -64,9 +65,9 @@ pub extern "C" fn udx_write(
 pub extern "C" fn udx_drive(
     stream: FlatStream,
     totals: FlatTotals,
-    sent: &mut [u64; 64],
-    held: &[u64; 32],
-    queue: &mut [u64; 128],
+    sent: &mut [u64; SENT_WORDS],
+    held: &[u64; HELD_WORDS],
+    queue: &mut [u64; QUEUE_WORDS],
     outgoing: &[u8],
     incoming: &[u8],
     headers: &mut [u8],
@@ -88,9 +89,9 @@ pub extern "C" fn udx_drive(
 pub extern "C" fn udx_take(
     stream: FlatStream,
     totals: FlatTotals,
-    sent: &mut [u64; 64],
-    held: &[u64; 32],
-    queue: &[u64; 128],
+    sent: &mut [u64; SENT_WORDS],
+    held: &[u64; HELD_WORDS],
+    queue: &[u64; QUEUE_WORDS],
     outgoing: &[u8],
     incoming: &[u8],
     headers: &[u8],
@@ -113,9 +114,9 @@ pub extern "C" fn udx_take(
 pub extern "C" fn udx_look(
     stream: FlatStream,
     totals: FlatTotals,
-    sent: &[u64; 64],
-    held: &[u64; 32],
-    queue: &[u64; 128],
+    sent: &[u64; SENT_WORDS],
+    held: &[u64; HELD_WORDS],
+    queue: &[u64; QUEUE_WORDS],
     outgoing: &[u8],
     incoming: &[u8],
     headers: &[u8],
@@ -134,9 +135,9 @@ pub extern "C" fn udx_look(
 pub extern "C" fn udx_deliver(
     stream: FlatStream,
     totals: FlatTotals,
-    sent: &mut [u64; 64],
-    held: &mut [u64; 32],
-    queue: &mut [u64; 128],
+    sent: &mut [u64; SENT_WORDS],
+    held: &mut [u64; HELD_WORDS],
+    queue: &mut [u64; QUEUE_WORDS],
     outgoing: &[u8],
     incoming: &mut [u8],
     headers: &mut [u8],
@@ -159,9 +160,9 @@ pub extern "C" fn udx_deliver(
 pub extern "C" fn udx_read(
     stream: FlatStream,
     totals: FlatTotals,
-    sent: &[u64; 64],
-    held: &mut [u64; 32],
-    queue: &[u64; 128],
+    sent: &[u64; SENT_WORDS],
+    held: &mut [u64; HELD_WORDS],
+    queue: &[u64; QUEUE_WORDS],
     outgoing: &[u8],
     incoming: &[u8],
     headers: &[u8],
@@ -184,9 +185,9 @@ pub extern "C" fn udx_read(
 pub extern "C" fn udx_close(
     stream: FlatStream,
     totals: FlatTotals,
-    sent: &[u64; 64],
-    held: &[u64; 32],
-    queue: &mut [u64; 128],
+    sent: &[u64; SENT_WORDS],
+    held: &[u64; HELD_WORDS],
+    queue: &mut [u64; QUEUE_WORDS],
     outgoing: &[u8],
     incoming: &[u8],
     headers: &mut [u8],

@@ -4,6 +4,7 @@ ghost use Rattle.rules_lent.specs.Broken.{lent};
 ghost use Rattle.udx.specs.Agree.{Answers};
 ghost use Rattle.udx_c.specs.Crosses.{Crosses};
 
+use constants::{HELD_WORDS, QUEUE_WORDS, SENT_WORDS};
 use rtt::Nanos;
 use udx_c_numbers::{
     FlatStep, FlatStream, FlatTotals, broken_step, flat_step, strange, stream_of, totals_of,
@@ -12,9 +13,9 @@ use udx_c_numbers::{
 pub fn udx_deliver(
     stream: FlatStream,
     totals: FlatTotals,
-    sent: &mut [u64; 64],
-    held: &mut [u64; 32],
-    queue: &mut [u64; 128],
+    sent: &mut [u64; SENT_WORDS],
+    held: &mut [u64; HELD_WORDS],
+    queue: &mut [u64; QUEUE_WORDS],
     outgoing: &[u8],
     incoming: &mut [u8],
     headers: &mut [u8],

@@ -3,6 +3,7 @@ ghost use Rattle.std.specs.Prelude.{◌≡◌};
 ghost use Rattle.rules_lent.specs.Broken.{lent};
 ghost use Rattle.udx_c.specs.Shown.{flat_part, no_part, Looks};
 
+use constants::{HELD_WORDS, QUEUE_WORDS, SENT_WORDS};
 use udx_c_numbers::{FlatStream, FlatTotals, flag_byte, strange, stream_of, totals_of};
 use udx_c_part::{Part, look_place};
 
@@ -17,7 +18,7 @@ pub struct FlatPart {
     pub header: u8,
 }
 
-fn no_part() -> FlatPart
+fn no_flat_part() -> FlatPart
     ensures { result ≡ no_part }
 {
     FlatPart {
@@ -40,9 +41,9 @@ fn flat_part(p: Part) -> FlatPart
 pub fn udx_look(
     stream: FlatStream,
     totals: FlatTotals,
-    sent: &[u64; 64],
-    held: &[u64; 32],
-    queue: &[u64; 128],
+    sent: &[u64; SENT_WORDS],
+    held: &[u64; HELD_WORDS],
+    queue: &[u64; QUEUE_WORDS],
     outgoing: &[u8],
     incoming: &[u8],
     headers: &[u8],
@@ -54,7 +55,7 @@ pub fn udx_look(
 {
     let ending = stream.ending;
     if strange(ending) {
-        return no_part();
+        return no_flat_part();
     }
     let s = stream_of(stream);
     let t = totals_of(totals);

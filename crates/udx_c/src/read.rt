@@ -5,6 +5,7 @@ ghost use Rattle.udx.specs.Read.{Gives};
 ghost use Rattle.udx_c_numbers.specs.Bytes.{is_strange};
 ghost use Rattle.udx_c.specs.Crosses.{Crosses};
 
+use constants::{HELD_WORDS, QUEUE_WORDS, SENT_WORDS};
 use udx_c_numbers::{
     FlatStep, FlatStream, FlatTotals, broken_step, flat_step, strange, stream_of, totals_of,
 };
@@ -12,9 +13,9 @@ use udx_c_numbers::{
 pub fn udx_read(
     stream: FlatStream,
     totals: FlatTotals,
-    sent: &[u64; 64],
-    held: &mut [u64; 32],
-    queue: &[u64; 128],
+    sent: &[u64; SENT_WORDS],
+    held: &mut [u64; HELD_WORDS],
+    queue: &[u64; QUEUE_WORDS],
     outgoing: &[u8],
     incoming: &[u8],
     headers: &[u8],

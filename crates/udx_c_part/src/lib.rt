@@ -7,8 +7,9 @@ ghost use Rattle.records.specs.Seen.{QueueFormed};
 ghost use Rattle.rules_lent.specs.Broken.{lent};
 ghost use Rattle.udx_c_part.specs.Place.{no_part, header_part, packet_part, FindsPart, looked_part};
 
-use constants::{OUTGOING_SLOT, UDX_HEADER_SIZE};
+use constants::{HELD_WORDS, OUTGOING_SLOT, QUEUE_WORDS, SENT_WORDS, UDX_HEADER_SIZE};
 use records::{Queue, Sender, Stream, Totals, expose_length};
+use records_places::header_at;
 use rules_lent::broken;
 use take_batch::left_entry;
 use take_entry::there;
@@ -39,7 +40,7 @@ fn header_part(place: u32) -> Part
 {
     Part {
         header: true,
-        start: place as usize * UDX_HEADER_SIZE,
+        start: header_at(place),
         length: UDX_HEADER_SIZE,
     }
 }
@@ -57,7 +58,7 @@ fn packet_part(n: u32, size: u32) -> Part
 
 // The part of the first entry left to take whose packet is there. A state packet always is, so the search skips none, and one that it
 // finds is the first one queued, at place `gone`.
-fn next_part(q: Queue, s: Sender, sent: &[u64; 64], queue: &[u64; 128]) -> Part
+fn next_part(q: Queue, s: Sender, sent: &[u64; SENT_WORDS], queue: &[u64; QUEUE_WORDS]) -> Part
     requires { QueueFormed q queue.now }
     ensures { FindsPart q s sent.now queue.now result }
 {
@@ -81,9 +82,9 @@ fn next_part(q: Queue, s: Sender, sent: &[u64; 64], queue: &[u64; 128]) -> Part
 pub fn look_place(
     s: Stream,
     t: Totals,
-    sent: &[u64; 64],
-    held: &[u64; 32],
-    queue: &[u64; 128],
+    sent: &[u64; SENT_WORDS],
+    held: &[u64; HELD_WORDS],
+    queue: &[u64; QUEUE_WORDS],
     outgoing: &[u8],
     incoming: &[u8],
     headers: &[u8],

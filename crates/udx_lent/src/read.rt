@@ -4,14 +4,15 @@ ghost use Rattle.udx.specs.Read.{Gives};
 ghost use Rattle.udx_lent.specs.Whole.{whole};
 
 use crate::Answer;
+use constants::{HELD_WORDS, QUEUE_WORDS, SENT_WORDS};
 use records::{Stream, Totals};
 
 pub fn read(
     t: &mut Totals,
     s: Stream,
-    sent: &[u64; 64],
-    held: &mut [u64; 32],
-    queue: &[u64; 128],
+    sent: &[u64; SENT_WORDS],
+    held: &mut [u64; HELD_WORDS],
+    queue: &[u64; QUEUE_WORDS],
     outgoing: &[u8],
     incoming: &[u8],
     headers: &[u8],

@@ -5,14 +5,15 @@ ghost use Rattle.udx.specs.Agree.{Answers};
 ghost use Rattle.udx_lent.specs.Whole.{whole};
 
 use crate::Answer;
+use constants::{HELD_WORDS, QUEUE_WORDS, SENT_WORDS};
 use records::{Stream, Totals};
 
 pub fn write(
     t: &mut Totals,
     s: Stream,
-    sent: &mut [u64; 64],
-    held: &[u64; 32],
-    queue: &mut [u64; 128],
+    sent: &mut [u64; SENT_WORDS],
+    held: &[u64; HELD_WORDS],
+    queue: &mut [u64; QUEUE_WORDS],
     outgoing: &mut [u8],
     incoming: &[u8],
     headers: &[u8],

@@ -3,10 +3,12 @@ ghost use Rattle.std.specs.Prelude.{◌≡◌, ◌&&◌, ◌+◌, leb};
 ghost use Rattle.packet.specs.Header.{has_type};
 ghost use Rattle.udx_refusals.specs.Verdicts.{header_verdict};
 
-use constants::{SEQ_END, STATE_PACKETS, UDX_MAX_DATA_SIZE};
+use constants::{SEQ_END, STATE_PACKETS, STORE_SLOTS, UDX_MAX_DATA_SIZE};
 use error::{Refusal, Verdict, refuse_if};
 use packet::Header;
 use records::Stream;
+
+const SLOTS: u64 = STORE_SLOTS as u64;
 
 // "DATA is numbered 4,294,967,295."
 fn last_number(h: Header) -> bool
@@ -18,7 +20,7 @@ fn last_number(h: Header) -> bool
 fn past_incoming(h: Header, cursor: u32) -> bool
     ensures { result ≡ (has_type 1 h.typ && leb (cursor + 32) h.seq) }
 {
-    let end = cursor as u64 + 32;
+    let end = cursor as u64 + SLOTS;
     if h.is_data() {
         end <= h.seq as u64
     } else {

@@ -4,7 +4,7 @@
 ghost use Rattle.std.specs.Prelude.{length};
 ghost use Rattle.write_all.specs.Write.{Ready, Writes};
 
-use constants::UDX_MAX_DATA_SIZE;
+use constants::{QUEUE_WORDS, SENT_WORDS, UDX_MAX_DATA_SIZE};
 use records::{expose_length, least};
 pub use write_piece::Outbox;
 use write_piece::{goes, send_data_packet};
@@ -21,8 +21,8 @@ pub fn write_pieces(
     o: Outbox,
     remote: u32,
     ack: u32,
-    sent: &mut [u64; 64],
-    queue: &mut [u64; 128],
+    sent: &mut [u64; SENT_WORDS],
+    queue: &mut [u64; QUEUE_WORDS],
     outgoing: &mut [u8],
     bytes: &[u8],
 ) -> Written

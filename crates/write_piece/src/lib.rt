@@ -17,10 +17,14 @@ ghost use Rattle.write_piece.specs.Piece.{
   SendsPiece,
 };
 
-use constants::{RECV_WIN, SEQ_END, STORE_SLOTS, UDX_HEADER_DATA};
+use constants::{
+    QUEUE_WORDS, RECV_WIN, SENT_WORDS, SEQ_END, STORE_SLOTS, UDX_HEADER_DATA, UDX_HEADER_SIZE,
+};
 use packet::Header;
 use records::{Entry, Queue, Sender, Sent, Totals};
 use rtt::Nanos;
+
+const HEADER: u32 = UDX_HEADER_SIZE as u32;
 
 // What a sent piece changes besides the words and the bytes.
 #[derive(Clone, Copy)]
@@ -51,7 +55,7 @@ fn new_packet(n: u32, payload: usize) -> Sent
 {
     Sent {
         number: n,
-        length: payload as u32 + 20,
+        length: payload as u32 + HEADER,
         transmits: 0,
         waiting: false,
         timed: false,
@@ -65,7 +69,7 @@ fn new_entry(n: u32, payload: usize) -> Entry
 {
     Entry {
         number: n,
-        length: payload as u32 + 20,
+        length: payload as u32 + HEADER,
         state: false,
     }
 }
@@ -112,7 +116,7 @@ fn counted_totals(t: Totals, payload: usize) -> Totals
 }
 
 // inflight + payload is at most the window; by subtraction, so that no sum can wrap.
-fn fits(inflight: u32, payload: usize, cwnd: u32) -> bool
+fn payload_fits(inflight: u32, payload: usize, cwnd: u32) -> bool
     requires { payload ≤ 1_380 }
     ensures { result ≡ nat_le (inflight + payload) cwnd }
 {
@@ -128,7 +132,7 @@ pub fn goes(s: Sender, payload: usize) -> bool
     requires { payload ≤ 1_380 }
     ensures { result ≡ may_go s payload }
 {
-    if fits(s.inflight, payload, s.cwnd) {
+    if payload_fits(s.inflight, payload, s.cwnd) {
         if s.remote_acked <= s.seq {
             if s.seq - s.remote_acked < STORE_SLOTS {
                 return s.seq < SEQ_END;
@@ -141,7 +145,7 @@ pub fn goes(s: Sender, payload: usize) -> bool
 }
 
 // Stores the packet of a piece: its bytes in the outgoing store, its record in the words (create_packet, outgoing.insert).
-fn store_packet(sent: &mut [u64; 64], outgoing: &mut [u8], h: Header, piece: &[u8])
+fn store_packet(sent: &mut [u64; SENT_WORDS], outgoing: &mut [u8], h: Header, piece: &[u8])
     requires { (length outgoing.old ≡ 44_800) × (length piece.now ≤ 1_380) }
     ensures { (sent.new ≡ sent_put sent.old (new_packet h.seq (length piece.now)))
         × (outgoing.new ≡ put outgoing.old (h.seq % 32 * 1_400) (header_bytes h ++ piece.now)) }
@@ -155,8 +159,8 @@ pub fn send_data_packet(
     o: Outbox,
     remote: u32,
     ack: u32,
-    sent: &mut [u64; 64],
-    queue: &mut [u64; 128],
+    sent: &mut [u64; SENT_WORDS],
+    queue: &mut [u64; QUEUE_WORDS],
     outgoing: &mut [u8],
     piece: &[u8],
 ) -> Outbox

@@ -24,11 +24,11 @@ pub returns-then-here : goal.returns-then-here
 returns-then-here c =
     let p = c.get_sent-p in
     let l = c.loop-n in
-    let r = c.broken.result in
+    let r = c.broken_sums.result in
     let kept =
     kept_by c.args.sent.now l.n c.args.clock.0 p.result _ _ _ _ p.ensures c.is_sized-sized.ensures c.both.ensures c.in_time.ensures
     c.both-kept.ensures in
-    ended _ _ _ _ r.good r.inflight r.packets r.bytes c.broken.ensures
+    ended _ _ _ _ r.good r.inflight r.packets r.bytes c.broken_sums.ensures
     (stop _ _ _ _ l.n l.inflight l.packets l.lengths p.result l.invariant p.ensures
     c.loop-n-test.true
     c.requires

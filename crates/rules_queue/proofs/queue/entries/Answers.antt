@@ -20,20 +20,24 @@ loop-i-preserved-then-both c =
     let t = c.plain in
     let e = c.get_entry-x in
     let l = c.loop-i in
-    alike _ _ _ _ _ _ l.i l.marks l.good l.fresh l.states e.result l.invariant e.ensures
+    let slot = c.slot-slot.ensures.number in
+    let first = sym c.both.ensures ∙ c.if-both.true in
+    rw slot (alike _ _ _ _ _ _ l.i l.marks l.good l.fresh l.states e.result l.invariant e.ensures
     c.loop-i-test.true
     c.requires.1
     t.result
     c.if-x.false
     (plain_by c.args.acked c.args.seq c.args.sent.now c.args.queue.now l.i e.result t.result c.same_packet-same.result e.ensures c.same_packet-same.ensures t.ensures)
-    (sym c.both.ensures ∙ c.if-both.true)
+    (rw slot at first))
 
 pub loop-i-preserved : goal.loop-i-preserved
 loop-i-preserved c =
     let n = c.both-near in
     let e = c.get_entry-x in
     let l = c.loop-i in
-    rw (c.both-fresh.ensures, c.both-good.ensures)
+    let slot = c.slot-slot.ensures.number in
+    let unmarked = c.both-else-both.ensures in
+    rw (c.both-fresh.ensures, c.both-good.ensures, slot)
     (packet _ _ _ _ _ _ l.i l.marks l.good l.fresh l.states e.result l.invariant e.ensures
     c.loop-i-test.true
     c.requires.1
@@ -43,7 +47,7 @@ loop-i-preserved c =
     c.if-x.false
     n.ensures
     c.queued_ok.ensures
-    c.both-else-both.ensures)
+    (rw slot at unmarked))
 
 pub returns : goal.returns
 returns c = let l = c.loop-i in done _ _ _ _ _ _ l.i l.marks l.good l.fresh l.states l.invariant c.loop-i-test.false
