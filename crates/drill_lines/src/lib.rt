@@ -8,7 +8,7 @@ use packet::Header;
 use session_text::LINE;
 
 #[derive(Clone, Copy)]
-pub enum Name {
+pub enum DrillName {
     Raw,
     Base,
     Open,
@@ -20,20 +20,20 @@ pub enum Name {
     Spoil,
 }
 
-fn put_name(out: &mut [u8], name: Name) -> usize
+fn put_name(out: &mut [u8], name: DrillName) -> usize
     requires { 7 ≤ length out.old }
     ensures { result ≤ 7 }
 {
     match name {
-        Name::Raw => session_text::put_word(out, 0, b"raw"),
-        Name::Base => session_text::put_word(out, 0, b"base"),
-        Name::Open => session_text::put_word(out, 0, b"open"),
-        Name::Room => session_text::put_word(out, 0, b"room"),
-        Name::Look => session_text::put_word(out, 0, b"look"),
-        Name::Numbers => session_text::put_word(out, 0, b"numbers"),
-        Name::Encode => session_text::put_word(out, 0, b"encode"),
-        Name::Decode => session_text::put_word(out, 0, b"decode"),
-        Name::Spoil => session_text::put_word(out, 0, b"spoil"),
+        DrillName::Raw => session_text::put_word(out, 0, b"raw"),
+        DrillName::Base => session_text::put_word(out, 0, b"base"),
+        DrillName::Open => session_text::put_word(out, 0, b"open"),
+        DrillName::Room => session_text::put_word(out, 0, b"room"),
+        DrillName::Look => session_text::put_word(out, 0, b"look"),
+        DrillName::Numbers => session_text::put_word(out, 0, b"numbers"),
+        DrillName::Encode => session_text::put_word(out, 0, b"encode"),
+        DrillName::Decode => session_text::put_word(out, 0, b"decode"),
+        DrillName::Spoil => session_text::put_word(out, 0, b"spoil"),
     }
 }
 
@@ -71,7 +71,7 @@ fn put_last_bytes(out: &mut [u8], at: usize, bytes: &[u8]) -> usize
 }
 
 // `NAME END OUTCOME 0`
-pub fn put_line(out: &mut [u8; LINE], name: Name, end: u8, outcome: Outcome) -> usize
+pub fn put_line(out: &mut [u8; LINE], name: DrillName, end: u8, outcome: Outcome) -> usize
     ensures { result ≤ 8_400 }
 {
     let a = put_name(out, name);
@@ -90,7 +90,7 @@ pub fn put_room(
 ) -> usize
     ensures { result ≤ 8_400 }
 {
-    let a = put_name(out, Name::Room);
+    let a = put_name(out, DrillName::Room);
     let b = session_text::put_answer(out, a, end, outcome, count);
     let c = put_numbers(out, b, &[segment, sum]);
     session_text::put_end(out, c)
@@ -101,7 +101,7 @@ pub fn put_look(out: &mut [u8; LINE], end: u8, shown: &[u8]) -> usize
     requires { length shown.now ≤ 4_096 }
     ensures { result ≤ 8_400 }
 {
-    let a = put_name(out, Name::Look);
+    let a = put_name(out, DrillName::Look);
     let b = session_text::put_answer(out, a, end, Outcome::Ready, shown.len() as u64);
     put_last_bytes(out, b, shown)
 }
@@ -110,7 +110,7 @@ pub fn put_look(out: &mut [u8; LINE], end: u8, shown: &[u8]) -> usize
 pub fn put_all_numbers(out: &mut [u8; LINE], end: u8, numbers: &[u64; 22]) -> usize
     ensures { result ≤ 8_400 }
 {
-    let a = put_name(out, Name::Numbers);
+    let a = put_name(out, DrillName::Numbers);
     let b = put_number(out, a, end as u64);
     let c = put_numbers(out, b, numbers);
     session_text::put_end(out, c)
@@ -121,7 +121,7 @@ pub fn put_encoded(out: &mut [u8; LINE], outcome: Outcome, bytes: &[u8]) -> usiz
     requires { length bytes.now ≤ 64 }
     ensures { result ≤ 8_400 }
 {
-    let a = put_name(out, Name::Encode);
+    let a = put_name(out, DrillName::Encode);
     let b = session_text::put_space(out, a);
     let c = session_text::put_outcome(out, b, outcome);
     let d = put_number(out, c, bytes.len() as u64);
@@ -131,7 +131,7 @@ pub fn put_encoded(out: &mut [u8; LINE], outcome: Outcome, bytes: &[u8]) -> usiz
 fn put_decode_head(out: &mut [u8; LINE], outcome: Outcome) -> usize
     ensures { result ≤ 100 }
 {
-    let a = put_name(out, Name::Decode);
+    let a = put_name(out, DrillName::Decode);
     let b = session_text::put_space(out, a);
     session_text::put_outcome(out, b, outcome)
 }

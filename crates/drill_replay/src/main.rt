@@ -9,7 +9,7 @@ mod reporting;
 use comparing::compare;
 use constants::{HEADER_STORE, INCOMING_STORE, OUTGOING_STORE};
 use drill_turn::{SPARE_HEADERS, SPARE_INCOMING, SPARE_OUTGOING};
-use reading::{Next, read_next};
+use reading::{NextScript, read_next};
 use reporting::{Tally, report};
 use session_kept::KEPT_STORE;
 use session_text::LINE;
@@ -43,7 +43,7 @@ fn run_next<R: Read, W: Write>(
     line: &mut [u8; LINE],
 ) -> io::Result<Tally> {
     match read_next(from, script, answer)? {
-        Next::Script {
+        NextScript::Script {
             kind,
             script: n,
             answer: m,
@@ -70,8 +70,8 @@ fn run_next<R: Read, W: Write>(
             );
             report(out, tally, c, answer, m, line)
         }
-        Next::NoMore => Ok(reporting::ended(tally, false)),
-        Next::Broken => Ok(reporting::ended(tally, true)),
+        NextScript::NoMore => Ok(reporting::ended(tally, false)),
+        NextScript::Broken => Ok(reporting::ended(tally, true)),
     }
 }
 

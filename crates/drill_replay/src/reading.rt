@@ -5,7 +5,7 @@ use std::io::Read;
 
 // The script's kind, its length and its answer's length; or why there is none.
 #[derive(Clone, Copy)]
-pub enum Next {
+pub enum NextScript {
     Script {
         kind: u8,
         script: usize,
@@ -36,24 +36,28 @@ fn read_both<R: Read>(
 }
 
 // Reads the script and the answer into the start of their buffers.
-pub fn read_next<R: Read>(from: &mut R, script: &mut [u8], answer: &mut [u8]) -> io::Result<Next> {
+pub fn read_next<R: Read>(
+    from: &mut R,
+    script: &mut [u8],
+    answer: &mut [u8],
+) -> io::Result<NextScript> {
     let mut head = [0u8; 9];
     let got = read_full(from, &mut head)?;
     if got == 0 {
-        return Ok(Next::NoMore);
+        return Ok(NextScript::NoMore);
     }
     if got != 9 {
-        return Ok(Next::Broken);
+        return Ok(NextScript::Broken);
     }
     let kind = head[0];
     let n = session_script::u32_at(&head, 1) as usize;
     let m = session_script::u32_at(&head, 5) as usize;
     if read_both(from, script, n, answer, m)? {
-        return Ok(Next::Script {
+        return Ok(NextScript::Script {
             kind,
             script: n,
             answer: m,
         });
     }
-    Ok(Next::Broken)
+    Ok(NextScript::Broken)
 }

@@ -207,35 +207,35 @@ fn both(a: bool, b: bool) -> bool {
 // A command and how many bytes of the script it takes: all that are left if it ends the run, and 1 if it is a session command, which the
 // session parses.
 #[derive(Clone, Copy)]
-pub struct Parsed {
+pub struct ParsedDrill {
     pub drill: Drill,
     pub size: usize,
 }
 
 // Parses the command at the front of what is left of a script.
-pub fn parse(s: &[u8]) -> Parsed
+pub fn parse(s: &[u8]) -> ParsedDrill
     requires { 0 < length s.now }
     ensures { (0 < result.size) × (result.size ≤ length s.now) }
 {
     let fixed = fixed_size(byte_at(s, 0));
     if fixed == 0 {
-        return Parsed {
+        return ParsedDrill {
             drill: Drill::Session,
             size: 1,
         };
     }
     let size = fixed + more(s);
     if s.len() < size {
-        return Parsed {
+        return ParsedDrill {
             drill: Drill::Bad,
             size: s.len(),
         };
     }
     let drill = operands(s);
     if in_range(drill) {
-        return Parsed { drill, size };
+        return ParsedDrill { drill, size };
     }
-    Parsed {
+    ParsedDrill {
         drill: Drill::Bad,
         size: s.len(),
     }

@@ -2,9 +2,11 @@
 ghost use Rattle.std.specs.Prelude.{◌≤◌, length};
 
 use crate::numbers::numbers;
-use constants::{HEADER_STORE, INCOMING_STORE, OUTGOING_STORE};
+use constants::{
+    HEADER_STORE, HELD_WORDS, INCOMING_STORE, OUTGOING_STORE, QUEUE_WORDS, SENT_WORDS, STORE_SLOTS,
+};
 use drill_broken::{SPARE_HEADERS, SPARE_INCOMING, SPARE_OUTGOING};
-use drill_lines::Name;
+use drill_lines::DrillName;
 use drill_script::{Base, Drill, Encode, Open, Raw, Room, Spoil};
 use error::{Outcome, UdxError};
 use packet::{Decoded, Header};
@@ -40,7 +42,7 @@ fn raw(
     let c = session_ends::deliver(e, datagram, clock, outgoing, incoming, headers);
     let end = c.end;
     let outcome = c.outcome;
-    let len = drill_lines::put_line(line, Name::Raw, r.end, outcome);
+    let len = drill_lines::put_line(line, DrillName::Raw, r.end, outcome);
     Acted { end, len }
 }
 
@@ -56,9 +58,9 @@ fn both(a: bool, b: bool) -> bool {
 }
 
 // Whether a number from `from` to below `to` is held; looks at 32 at most.
-fn any_held(held: &[u64; 32], from: u32, to: u32) -> bool {
+fn any_held(held: &[u64; HELD_WORDS], from: u32, to: u32) -> bool {
     let mut n = from;
-    let mut left: u32 = 32;
+    let mut left: u32 = STORE_SLOTS;
     while 0 < left {
         if to <= n {
             return false;
@@ -104,9 +106,9 @@ fn based(e: SessionEnd, b: Base) -> SessionEnd {
     SessionEnd {
         stream: s,
         totals,
-        sent: [0; 64],
-        held: [0; 32],
-        queue: [0; 128],
+        sent: [0; SENT_WORDS],
+        held: [0; HELD_WORDS],
+        queue: [0; QUEUE_WORDS],
         kept,
     }
 }
@@ -115,13 +117,13 @@ fn base(e: SessionEnd, b: Base, line: &mut [u8; LINE]) -> Acted
     ensures { result.len ≤ 8_400 }
 {
     if both(is_empty(e), 1_400 <= b.window) {
-        let len = drill_lines::put_line(line, Name::Base, b.end, Outcome::Ready);
+        let len = drill_lines::put_line(line, DrillName::Base, b.end, Outcome::Ready);
         return Acted {
             end: based(e, b),
             len,
         };
     }
-    let len = drill_lines::put_line(line, Name::Base, b.end, Outcome::Nothing);
+    let len = drill_lines::put_line(line, DrillName::Base, b.end, Outcome::Nothing);
     Acted { end: e, len }
 }
 
@@ -154,7 +156,7 @@ fn open(
         headers,
     );
     let outcome = o.outcome;
-    let len = drill_lines::put_line(line, Name::Open, opened.end, outcome);
+    let len = drill_lines::put_line(line, DrillName::Open, opened.end, outcome);
     let mut end = e;
     if is_ready(outcome) {
         let stream = o.stream;
@@ -291,7 +293,7 @@ fn spoil(
         spare_incoming,
         spare_headers,
     );
-    drill_lines::put_line(line, Name::Spoil, x.end, outcome)
+    drill_lines::put_line(line, DrillName::Spoil, x.end, outcome)
 }
 
 // Runs a drill command; s starts with its bytes.

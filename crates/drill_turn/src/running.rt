@@ -29,18 +29,18 @@ fn end_of(drill: Drill) -> u8 {
 
 // A command of a script, and where the next one starts.
 #[derive(Clone, Copy)]
-struct Placed {
+struct PlacedDrill {
     drill: Drill,
     next: usize,
 }
 
-fn command_at(script: &[u8], at: usize) -> Placed
+fn command_at(script: &[u8], at: usize) -> PlacedDrill
     requires { at < length script.now }
     ensures { (at < result.next) × (result.next ≤ length script.now) }
 {
     let p = drill_script::parse(&script[at..]);
     let drill = p.drill;
-    Placed {
+    PlacedDrill {
         drill,
         next: at + p.size,
     }
