@@ -42,7 +42,7 @@ module _ (q : Queue) (queue : List ℕ) (headers : Bytes) (able : Pushable q (le
         → seen_queue (pushed_state q) (set queue q.count (entry_word state_entry)) (put headers (q.states * 20) bytes) ≡ pushed (model.state bytes) (seen_queue q queue headers)
     queue_seen f =
         queue_state q (pushed_state q) queue room state_entry entry_said able.rest able.rest refl refl headers bytes refl (queue_says q queue f).places twenty
-        (omega (arith, able.places, able.whole))
+        (rw twenty at fits)
 
     headers_length : length (put headers (q.states * 20) bytes) ≡ 1_280
     headers_length = put_length headers (q.states * 20) bytes fits ∙ able.whole

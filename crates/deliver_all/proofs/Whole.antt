@@ -6,24 +6,22 @@ use mathlib.Core.List.{List}
 use mathlib.Core.Bool.{true}
 use lib.ListN.{length}
 use Rattle.packet.specs.declared.header.Header.{Header}
-use Rattle.packet.specs.Header.{has_type}
 use Rattle.model.specs.Lists.{Bytes}
 use Rattle.model.specs.Stream as model
 use Rattle.model.specs.Receiving.{count_received, on_end, on_data, on_ack, handle_incoming}
 use Rattle.records.specs.declared.Queue.{Queue}
 use Rattle.records.specs.declared.Receiver.{Receiver}
-use Rattle.records.specs.declared.Sender.{Sender}
 use Rattle.records.specs.declared.Stream.{Stream}
 use Rattle.records.specs.declared.Totals.{Totals}
-use Rattle.records.specs.Seen.{Lent, seen, formed_queue}
+use Rattle.records.specs.Seen.{seen, formed_queue}
 use Rattle.records.specs.Setters.{with_words}
 use Rattle.close_state.specs.State.{Pushable, with_state}
 use Rattle.records.specs.Laid.{LaidReceiver}
 use Rattle.deliver_data.specs.Absorbing.{Accepted}
 use Rattle.deliver_parts.specs.declared.Delivered.{Delivered}
 use Rattle.deliver_notes.specs.Numbers.{counted_received, clocked_stream, acked_sender}
-use Rattle.deliver_parts.specs.Steps.{with_sender_and_timing, Measured, Sacked, Pushed, Ended, TakesData, with_data, TookData}
-use Rattle.deliver_all.specs.Handle.{with_begun, begun, Began, CanDeliver, with_delivered, Handled}
+use Rattle.deliver_parts.specs.Steps.{with_sender_and_timing, Sacked, Pushed, Ended, TakesData, TookData}
+use Rattle.deliver_all.specs.Handle.{Began, CanDeliver, with_delivered, Handled}
 
 -- there is room for one more state packet
 pub pushed_able : {q : Queue} {queue : List ℕ} {q' : Queue} {queue' : List ℕ} {headers' : Bytes} → Pushed q queue q' queue' headers' → q.left ≡ 0 → q.count ≤ 126 → q.states ≤ 62

@@ -13,22 +13,20 @@ use Rattle.packet.specs.Header.{has_type}
 use Rattle.model.specs.Lists.{Bytes}
 use Rattle.model.specs.Stream as model
 use Rattle.model.specs.Sending.{failed, terminate, send_state_packet}
-use Rattle.model.specs.Receiving.{count_data, on_sack, remote_ended, on_end, absorb, on_data}
+use Rattle.model.specs.Receiving.{count_data, on_sack, remote_ended, on_end, on_data}
 use Rattle.records.specs.declared.Ending.{Ending}
 use Rattle.records.specs.declared.Queue.{Queue}
 use Rattle.records.specs.declared.Receiver.{Receiver}
 use Rattle.records.specs.declared.Stream.{Stream}
 use Rattle.records.specs.declared.Totals.{Totals}
-use Rattle.records.specs.Seen.{Lent, seen, seen_receiver, seen_totals, formed_queue}
+use Rattle.records.specs.Seen.{seen, seen_totals}
 use Rattle.records.specs.Setters.{with_queue}
 use Rattle.close_state.specs.declared.Queued.{Queued}
-use Rattle.close_state.specs.State.{seen_ending, Pushable, StateQueued, with_ending, with_state}
+use Rattle.close_state.specs.State.{seen_ending, StateQueued, with_ending, with_state}
 use Rattle.close_state.proofs.StatePacket.{state_seen, terminate_seen}
 use Rattle.deliver_acks.specs.declared.Acks.{Acks}
 use Rattle.deliver_acks.specs.Sacks.{AcksBlocks}
-use Rattle.records.specs.Laid.{LaidReceiver}
 use Rattle.deliver_data.specs.Absorbing.{Absorbed}
-use Rattle.deliver_parts.specs.declared.Delivered.{Delivered}
 use Rattle.deliver_notes.specs.Numbers.{counted_data}
 use Rattle.deliver_parts.specs.Steps.{with_sender_and_timing, with_receiver, Sacked, Pushed, Ended, with_data, TookData}
 

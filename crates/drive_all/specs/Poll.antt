@@ -1,6 +1,6 @@
 -- A whole drive on the records: its precondition, and that what is seen agrees with the model.
 use Rattle.std.specs.Prelude.{ℕ, ◌+◌, ◌-◌, ◌^◌, ◌≤◌, ◌<◌, ◌≡◌, List, true, length}
-use Rattle.rtt.specs.Estimate.{InRange, nanos}
+use Rattle.rtt.specs.Estimate.{nanos}
 use Rattle.model.specs.Lists.{Bytes}
 use Rattle.model.specs.Driving as drive
 use Rattle.records.specs.declared.Stream.{Stream}

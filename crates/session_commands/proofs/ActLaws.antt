@@ -20,7 +20,7 @@ use Rattle.udx_steps.specs.declared.step.Step.{Step}
 use Rattle.udx.specs.Agree.{Agrees, Answers, on_records, laid_out}
 use Rattle.promise.specs.Runs.{Records}
 use Rattle.promise.proofs.Runs.{agreed, puts, take_counts, read_counts}
-use Rattle.session_kept.specs.Kept.{kept_of, last_kept, fitted, segment_of}
+use Rattle.session_kept.specs.Kept.{kept_of, last_kept, fitted}
 use Rattle.session_ends.specs.declared.SessionEnd.{SessionEnd}
 use Rattle.session_ends.specs.declared.calls.Called.{Called}
 use Rattle.session_ends.specs.Calls.{Stores, lent_of, step_of, Calls, CallsTake, CallsRead}

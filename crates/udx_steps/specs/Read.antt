@@ -4,7 +4,6 @@ use Rattle.error.specs.Answers.{error_or}
 use Rattle.error.specs.declared.UdxError.{UdxError}
 use Rattle.error.specs.declared.Outcome.{Outcome}
 use Rattle.error.specs.declared.Outcome.TheVariants.{Ready, Waiting}
-use Rattle.model.specs.Receiving.{read}
 use Rattle.records.specs.declared.Receiver.{Receiver}
 use Rattle.records.specs.declared.Stream.{Stream}
 use Rattle.records.specs.declared.Totals.{Totals}
