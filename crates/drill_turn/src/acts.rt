@@ -57,7 +57,7 @@ fn both(a: bool, b: bool) -> bool {
     if a { b } else { false }
 }
 
-// Whether a number from `from` to below `to` is held; looks at 32 at most.
+// Whether a number from `from` to below `to` is held; looks at one for each slot at most.
 fn any_held(held: &[u64; HELD_WORDS], from: u32, to: u32) -> bool {
     let mut n = from;
     let mut left: u32 = STORE_SLOTS;

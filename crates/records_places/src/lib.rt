@@ -7,8 +7,7 @@ use constants::{HEADER_PIECE, INCOMING_SLOT, OUTGOING_SLOT, STORE_SLOTS};
 
 // "slot = number mod 32", in either store.
 pub fn slot(n: u32) -> usize
-    ensures number { result ≡ n % 32 }
-    ensures bound { result < 32 }
+    ensures { (result ≡ n % 32) × (result < 32) }
 {
     (n % STORE_SLOTS) as usize
 }

@@ -12,4 +12,4 @@ returns c =
     let n-fits : x.n < 4_294_967_296 = omega (arith, c.ranges.n) in
     let r-fits : r.result < 2 ^ 64 = omega (arith, r.type_inv) in
     short_word (get_or x.held.now s.result 0) x.n x.most r.result c.requires n-fits r-fits r.ensures.value
-    ∙ ap (λ (i : ℕ). is_short (held_of (get_or x.held.now i 0)) x.n x.most) s.ensures.number
+    ∙ ap (λ (i : ℕ). is_short (held_of (get_or x.held.now i 0)) x.n x.most) s.ensures.0

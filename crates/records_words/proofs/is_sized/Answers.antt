@@ -14,4 +14,4 @@ returns c =
     let r-fits : r.result < 2 ^ 64 = omega (arith, r.type_inv) in
     sized_word (get_or x.sent.now s.result 0) x.n x.least x.most r.result c.requires.0 c.requires.1 n-fits r-fits r.ensures.value
     (get_or x.sent.now (32 + s.result) 0)
-    ∙ ap (λ (i : ℕ). is_sized (sent_in x.sent.now i) x.n x.least x.most) s.ensures.number
+    ∙ ap (λ (i : ℕ). is_sized (sent_in x.sent.now i) x.n x.least x.most) s.ensures.0

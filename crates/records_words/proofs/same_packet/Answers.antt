@@ -5,4 +5,4 @@ use Rattle.records_words.proofs.same_packet.Goals as goal
 
 pub returns : goal.returns
 unfolding entry_of
-returns c = rw (c.slot-at.ensures.number, c.high.ensures) (same_word _ _ _)
+returns c = rw (c.slot-at.ensures.0, c.high.ensures) (same_word _ _ _)

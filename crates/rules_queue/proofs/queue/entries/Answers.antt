@@ -20,7 +20,7 @@ loop-i-preserved-then-both c =
     let t = c.plain in
     let e = c.get_entry-x in
     let l = c.loop-i in
-    let slot = c.slot-slot.ensures.number in
+    let slot = c.slot-slot.ensures.0 in
     let first = sym c.both.ensures ∙ c.if-both.true in
     rw slot (alike _ _ _ _ _ _ l.i l.marks l.good l.fresh l.states e.result l.invariant e.ensures
     c.loop-i-test.true
@@ -35,7 +35,7 @@ loop-i-preserved c =
     let n = c.both-near in
     let e = c.get_entry-x in
     let l = c.loop-i in
-    let slot = c.slot-slot.ensures.number in
+    let slot = c.slot-slot.ensures.0 in
     let unmarked = c.both-else-both.ensures in
     rw (c.both-fresh.ensures, c.both-good.ensures, slot)
     (packet _ _ _ _ _ _ l.i l.marks l.good l.fresh l.states e.result l.invariant e.ensures
