@@ -1,11 +1,10 @@
 -- The numbers of 01's refusals, and how a stream's error is answered.
-use Rattle.std.specs.Prelude.{ℕ}
+use Rattle.std.specs.Prelude.{ℕ, Option, None, Some, Result, Ok, Err}
 use Rattle.error.specs.declared.UdxError.{UdxError}
 use Rattle.error.specs.declared.UdxError.TheVariants as error
 use Rattle.error.specs.declared.Refusal.{Refusal}
 use Rattle.error.specs.declared.Refusal.TheVariants as refusal
 use Rattle.error.specs.declared.Outcome.{Outcome}
-use Rattle.error.specs.declared.Outcome.TheVariants.{Refused}
 
 -- 01, 'Seventeen refusals, in checking order': the number that each returns.
 abbrev pub number_of : Refusal → ℕ
@@ -27,9 +26,13 @@ number_of refusal.UnexpectedEof = 15
 number_of refusal.TimedOut = 16
 number_of refusal.SeqExhausted = 17
 
--- 01, 14 to 16: "Write or read meets ConnectionReset" (UnexpectedEof, TimedOut); without an error, the call's own answer.
-abbrev pub error_or : UdxError → Outcome → Outcome
-error_or error.None otherwise = otherwise
-error_or error.ConnectionReset otherwise = Refused refusal.ConnectionReset
-error_or error.UnexpectedEof otherwise = Refused refusal.UnexpectedEof
-error_or error.TimedOut otherwise = Refused refusal.TimedOut
+-- 01, 14 to 16: "Write or read meets ConnectionReset" (UnexpectedEof, TimedOut).
+abbrev pub met : UdxError → Refusal
+met error.ConnectionReset = refusal.ConnectionReset
+met error.UnexpectedEof = refusal.UnexpectedEof
+met error.TimedOut = refusal.TimedOut
+
+-- The refusal for the stream's error; without one, the call's own answer.
+abbrev pub error_or : Option UdxError → Outcome → Result Outcome Refusal
+error_or None otherwise = Ok otherwise
+error_or (Some error) otherwise = Err (met error)

@@ -1,23 +1,22 @@
 // Why a stream ended and what a call answers.
 #![tactic(auto)]
 
-ghost use Rattle.std.specs.Prelude.{◌≡◌, cond};
-ghost use Rattle.error.specs.Answers.{number_of, error_or};
+ghost use Rattle.std.specs.Prelude.{◌≡◌};
+ghost use Rattle.error.specs.Answers.{number_of, met, error_or};
 
-// The Rust's Option<UdxError>: None while the stream runs, else the error's kind.
-#[derive(Clone, Copy)]
+// The Rust's UdxError; a stream that runs has none.
+#[derive(Clone, Copy, PartialEq, Eq)]
 pub enum UdxError {
-    None,
     ConnectionReset,
     UnexpectedEof,
     TimedOut,
 }
 
-// 01's refusals, in checking order.
-#[derive(Clone, Copy)]
+// 01's refusals, in checking order, which numbers them from 1.
+#[derive(Clone, Copy, PartialEq, Eq)]
 pub enum Refusal {
     // A store has the wrong length, or a rule of the records is broken.
-    BrokenRecords,
+    BrokenRecords = 1,
     // Encode with under 20 bytes, take with under 14,000.
     ShortBuffer,
     // Open with a segment ceiling outside 1 to 10.
@@ -50,67 +49,43 @@ pub enum Refusal {
     SeqExhausted,
 }
 
-// The outcome of a call, beside the count of bytes accepted, taken or put.
-#[derive(Clone, Copy)]
+// The outcome of a call that is not refused, beside the count of bytes accepted, taken or put; in the order of C's numbers for it.
+#[derive(Clone, Copy, PartialEq, Eq)]
 pub enum Outcome {
     Ready,
     Waiting,
     Done,
     Nothing,
-    Refused(Refusal),
 }
 
-// The refusal's number in 01.
-pub fn number(why: Refusal) -> u8
-    ensures { result ≡ number_of why }
-{
-    match why {
-        Refusal::BrokenRecords => 1,
-        Refusal::ShortBuffer => 2,
-        Refusal::SegmentCeiling => 3,
-        Refusal::BadClock => 4,
-        Refusal::AfterDone => 5,
-        Refusal::BatchesLeft => 6,
-        Refusal::BadHeader => 7,
-        Refusal::OtherStream => 8,
-        Refusal::LongPayload => 9,
-        Refusal::AckPastSeq => 10,
-        Refusal::SeqEnd => 11,
-        Refusal::PastIncoming => 12,
-        Refusal::StateQueueFull => 13,
-        Refusal::ConnectionReset => 14,
-        Refusal::UnexpectedEof => 15,
-        Refusal::TimedOut => 16,
-        Refusal::SeqExhausted => 17,
+impl Refusal {
+    // The refusal's number in 01.
+    pub fn number(self) -> u8
+        ensures { result ≡ number_of self }
+    {
+        self as u8
+    }
+}
+
+// Write and read meet the stream's error as a refusal.
+impl From<UdxError> for Refusal {
+    ghost from_gives = { λ error why. why ≡ met error };
+
+    fn from(error: UdxError) -> Refusal {
+        match error {
+            UdxError::ConnectionReset => Refusal::ConnectionReset,
+            UdxError::UnexpectedEof => Refusal::UnexpectedEof,
+            UdxError::TimedOut => Refusal::TimedOut,
+        }
     }
 }
 
 // The refusal for the stream's error, or `otherwise` if it has none.
-pub fn error_or(error: UdxError, otherwise: Outcome) -> Outcome
+pub fn error_or(error: Option<UdxError>, otherwise: Outcome) -> Result<Outcome, Refusal>
     ensures { result ≡ error_or error otherwise }
 {
     match error {
-        UdxError::None => otherwise,
-        UdxError::ConnectionReset => Outcome::Refused(Refusal::ConnectionReset),
-        UdxError::UnexpectedEof => Outcome::Refused(Refusal::UnexpectedEof),
-        UdxError::TimedOut => Outcome::Refused(Refusal::TimedOut),
-    }
-}
-
-// The result of checking a call's refusals before it acts.
-#[derive(Clone, Copy)]
-pub enum Verdict {
-    Clear,
-    Refused(Refusal),
-}
-
-// One line of a list of refusals: this one if it applies, else the verdict of the later ones.
-pub fn refuse_if(applies: bool, why: Refusal, later: Verdict) -> Verdict
-    ensures { result ≡ cond applies (Verdict.Refused why) later }
-{
-    if applies {
-        Verdict::Refused(why)
-    } else {
-        later
+        Some(met) => Err(met.into()),
+        None => Ok(otherwise),
     }
 }

@@ -9,7 +9,8 @@ use borrow.Author.Tests.{lt-ltb, le-ltb, ltb-true, ltb-false}
 use lib.Dec.{ltb}
 use lib.ListN.{length, drop, length-drop}
 use lib.Seq.{drop-drop}
-use Rattle.packet.specs.declared.sack.Block.TheVariants.{Range, NoMore}
+use Rattle.std.specs.Prelude.{Option, None, Some}
+use Rattle.packet.specs.declared.sack.Block.{Block}
 use Rattle.packet.specs.LittleEndian.{word}
 use Rattle.packet.specs.Blocks.{Span, span_of, blocks_in, blocks_from, next_block, BlockCount}
 
@@ -46,14 +47,14 @@ blocks_end payload at h = none (length payload) (drop at payload) (simp length-d
 
 -- what is read at a place, by how many bytes are left there
 pub next_range : (payload : List ℕ) (at : ℕ) {start end : ℕ} → at + 8 < length payload
-    → start ≡ word payload at → end ≡ word payload (at + 4) → Range start end ≡ next_block (blocks_from payload at)
+    → start ≡ word payload at → end ≡ word payload (at + 4) → Some record { start = start; end = end } ≡ next_block (blocks_from payload at)
 next_range payload at h p q = simp (p, q, blocks_next payload at h, drop-drop 4 at payload)
 
-pub next_end : (payload : List ℕ) (at : ℕ) → length payload ≤ at + 8 → NoMore ≡ next_block (blocks_from payload at)
+pub next_end : (payload : List ℕ) (at : ℕ) → length payload ≤ at + 8 → None ≡ next_block (blocks_from payload at)
 next_end payload at h = simp (blocks_end payload at h)
 
 -- what a result says about the blocks left: a range is the first of them and is inside the payload; at the end there is none
-pub range_inside : (payload : List ℕ) (at start end : ℕ) → next_block (blocks_from payload at) ≡ Range start end → at + 8 < length payload
+pub range_inside : (payload : List ℕ) (at start end : ℕ) → next_block (blocks_from payload at) ≡ Some record { start = start; end = end } → at + 8 < length payload
 range_inside payload at start end e = go (ltb (at + 8) (length payload)) refl
   where
     go : (t : Bool) → ltb (at + 8) (length payload) ≡ t → at + 8 < length payload
@@ -62,19 +63,23 @@ range_inside payload at start end e = go (ltb (at + 8) (length payload)) refl
         let g = next_end payload at (ltb-false (at + 8) (length payload) f) in
         absurd (let z : ◌≡◌ {A = ℕ} 0 1 = cc in omega arith)
 
-pub range_first : (payload : List ℕ) (at start end : ℕ) → next_block (blocks_from payload at) ≡ Range start end
+pub range_first : (payload : List ℕ) (at start end : ℕ) → next_block (blocks_from payload at) ≡ Some record { start = start; end = end }
     → blocks_from payload at ≡ record { start = start; end = end } ∷ blocks_from payload (at + 8)
 range_first payload at start end e =
     let f = blocks_next payload at (range_inside payload at start end e) in
     f ∙ ap (λ (b : Span). b ∷ blocks_from payload (at + 8)) (same (word (drop at payload) 0) (word (drop at payload) 4) (rw f at e))
   where
-    same : (a b : ℕ) → Range a b ≡ Range start end → ◌≡◌ {A = Span} record { start = a; end = b } record { start = start; end = end }
-    same a b g = cc
+    same : (a b : ℕ) → ◌≡◌ {A = Option Block} (Some record { start = a; end = b }) (Some record { start = start; end = end }) → ◌≡◌ {A = Span} record { start = a; end = b } record { start = start; end = end }
+    same a b g =
+        let h : ◌≡◌ {A = Block} record { start = a; end = b } record { start = start; end = end } = cc in
+        let p : a ≡ start = ap (λ (x : Block). x.start) h in
+        let q : b ≡ end = ap (λ (x : Block). x.end) h in
+        rw (p, q) refl
 
-pub end_none : (payload : List ℕ) (at : ℕ) → next_block (blocks_from payload at) ≡ NoMore → blocks_from payload at ≡ []
+pub end_none : (payload : List ℕ) (at : ℕ) → next_block (blocks_from payload at) ≡ None → blocks_from payload at ≡ []
 end_none payload at e = go (blocks_from payload at) e
   where
-    go : (bs : List Span) → next_block bs ≡ NoMore → bs ≡ []
+    go : (bs : List Span) → next_block bs ≡ None → bs ≡ []
     go [] f = refl
     go (b ∷ bs) f = absurd (let z : ◌≡◌ {A = ℕ} 0 1 = cc in omega arith)
 

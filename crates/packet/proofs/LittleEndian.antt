@@ -9,6 +9,7 @@ use native.Mathlib.Omega.{arith}
 use lib.Dec.{lit<}
 use lib.ListN.{length, get_or, take, drop, length-take, length-drop}
 use lib.Seq.{drop-cons, get_or-drop}
+use Rattle.std.specs.Int.{w32, to_le_bytes}
 use Rattle.packet.specs.LittleEndian.{le, le_bytes, word}
 use Rattle.packet.specs.RoundTrip.{AllBytes}
 
@@ -25,6 +26,13 @@ le_bytes_le (b ∷ bs) h =
     let first : (b + 256 * le bs) % 256 ≡ b = omega arith in
     let rest : (b + 256 * le bs) / 256 ≡ le bs = omega arith in
     simp (first, rest, le_bytes_le bs (λ i. h (suc i)))
+
+-- the bytes that std's `to_le_bytes` gives
+pub std_bytes : (n : ℕ) → to_le_bytes w32 n ≡ le_bytes 4 n
+std_bytes n =
+    let second : n / 256 ^ 2 ≡ n / 256 / 256 = omega arith in
+    let third : n / 256 ^ 3 ≡ n / 256 / 256 / 256 = omega arith in
+    rw (second, third) refl
 
 -- the first of k + 1 elements at a place, and the others at the next place
 pub next : (s : List ℕ) (at k : ℕ) → at < length s → take (suc k) (drop at s) ≡ get_or s at 0 ∷ take k (drop (at + 1) s)

@@ -1,7 +1,6 @@
 -- The SACK blocks of a payload, all of them and the next one.
-use Rattle.std.specs.Prelude.{ℕ, zero, suc, ◌-◌, ◌/◌, ◌≡◌, List, [], ◌∷◌, cond, length, drop, ltb}
+use Rattle.std.specs.Prelude.{ℕ, zero, suc, ◌-◌, ◌/◌, ◌≡◌, List, [], ◌∷◌, cond, length, drop, ltb, Option, None, Some}
 use Rattle.packet.specs.declared.sack.Block.{Block}
-use Rattle.packet.specs.declared.sack.Block.TheVariants.{Range, NoMore}
 use Rattle.packet.specs.LittleEndian.{word}
 
 -- numbers from start to below end
@@ -27,10 +26,10 @@ blocks_from payload at = blocks_in (length payload) (drop at payload)
 abbrev pub blocks : List ℕ → List Span
 blocks payload = blocks_from payload 0
 
--- the first of some blocks, or the end if there is none
-abbrev pub next_block : List Span → Block
-next_block [] = NoMore
-next_block (b ∷ bs) = Range b.start b.end
+-- the first of some blocks, if there is one
+abbrev pub next_block : List Span → Option Block
+next_block [] = None
+next_block (b ∷ bs) = Some record { start = b.start; end = b.end }
 
 -- How many blocks a payload has; proved in proofs/Blocks.antt.
 abbrev pub BlockCount : Type 0

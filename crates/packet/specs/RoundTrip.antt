@@ -1,7 +1,6 @@
 -- Encoding and decoding undo each other: the statements. The proofs are in proofs/RoundTrip.antt.
-use Rattle.std.specs.Prelude.{ℕ, ◌^◌, ◌≤◌, ◌<◌, ◌≡◌, List, ◌++◌, length, get_or, take, drop}
+use Rattle.std.specs.Prelude.{ℕ, ◌^◌, ◌≤◌, ◌<◌, ◌≡◌, List, ◌++◌, length, get_or, take, drop, Ok}
 use Rattle.packet.specs.declared.header.Header.{Header}
-use Rattle.packet.specs.declared.header.Decoded.TheVariants.{Packet}
 use Rattle.packet.specs.Header.{decoded, encoded_in}
 
 -- each field fits its bytes in the header, as in every header of the code
@@ -19,10 +18,10 @@ AllBytes s = (i : ℕ) → get_or s i 0 < 256
 
 -- Decoding an encoded header gives it back.
 abbrev pub DecodeEncode : Type 0
-DecodeEncode = (h : Header) (buf : List ℕ) → HeaderFits h → 20 ≤ length buf → decoded (encoded_in h buf) ≡ Packet h
+DecodeEncode = (h : Header) (buf : List ℕ) → HeaderFits h → 20 ≤ length buf → decoded (encoded_in h buf) ≡ Ok h
 
 -- Encoding a decoded header gives its first 20 bytes back.
 abbrev pub EncodeDecode : Type 0
 EncodeDecode =
-    (h : Header) (s buf : List ℕ) → AllBytes s → decoded s ≡ Packet h → 20 ≤ length buf
+    (h : Header) (s buf : List ℕ) → AllBytes s → decoded s ≡ Ok h → 20 ≤ length buf
     → encoded_in h buf ≡ take 20 s ++ drop 20 buf

@@ -5,5 +5,5 @@ mod header;
 mod little_endian;
 mod sack;
 
-pub use header::{Decoded, Header};
+pub use header::Header;
 pub use sack::{Block, block_at};

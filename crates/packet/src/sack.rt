@@ -4,26 +4,23 @@ ghost use Rattle.packet.specs.Blocks.{next_block, blocks_from};
 
 use crate::little_endian::read_u32_le;
 
-#[derive(Clone, Copy)]
-pub enum Block {
-    // Numbers from start to below end.
-    Range { start: u32, end: u32 },
-    // There is no block here.
-    NoMore,
+// Numbers from start to below end.
+#[derive(Clone, Copy, PartialEq, Eq)]
+pub struct Block {
+    pub start: u32,
+    pub end: u32,
 }
 
-// The block at a place in a payload; the next one is 8 bytes on. Compares with a difference, because the sum could wrap.
-pub fn block_at(payload: &[u8], at: usize) -> Block
+// The block at a place in a payload, if there is one; the next one is 8 bytes on. Compares with a difference, because the sum could wrap.
+#[tactic(auto, using(crate::proofs::Blocks::next_range, crate::proofs::Blocks::next_end))]
+pub fn block_at(payload: &[u8], at: usize) -> Option<Block>
     ensures { result ≡ next_block (blocks_from payload.now at) }
 {
-    if payload.len() <= 8 {
-        return Block::NoMore;
+    if payload.len().saturating_sub(8) <= at {
+        return None;
     }
-    if payload.len() - 8 <= at {
-        return Block::NoMore;
-    }
-    Block::Range {
+    Some(Block {
         start: read_u32_le(payload, at),
         end: read_u32_le(payload, at + 4),
-    }
+    })
 }

@@ -1,16 +1,18 @@
 // The block reader in the Rust's handle_incoming_sacks: it keeps its payload and its place together. `next_at` does the work on a plain
-// slice and a number. Functions that hold a reader are thin; `read_from` is for callers that hold none.
+// slice and a number, and what holds a reader is thin over it. A loop takes a reader's blocks in turn; `moved`, `next` and `read_from` are
+// one step from a place of the caller's, as the theorems on calls state it (crate promise).
 #![tactic(auto)]
 
 ghost use Rattle.std.specs.Prelude.{◌≡◌};
-ghost use Rattle.packet_blocks.specs.Reader.{read_at};
+ghost use Rattle.std.specs.Iterator.{item_count};
+ghost use Rattle.packet_blocks.specs.Reader.{read_at, ReadsOn, blocks_left};
 
 use packet::Block;
 
-// A block, or the end, and the place after it.
+// A block, if there is one, and the place after it.
 #[derive(Clone, Copy)]
 pub struct Next {
-    pub block: Block,
+    pub block: Option<Block>,
     pub at: usize,
 }
 
@@ -25,14 +27,11 @@ pub fn next_at(payload: &[u8], at: usize) -> Next
     ensures { result ≡ read_at payload.now at }
 {
     match packet::block_at(payload, at) {
-        Block::Range { start, end } => Next {
-            block: Block::Range { start, end },
+        Some(block) => Next {
+            block: Some(block),
             at: at + 8,
         },
-        Block::NoMore => Next {
-            block: Block::NoMore,
-            at,
-        },
+        None => Next { block: None, at },
     }
 }
 
@@ -47,10 +46,7 @@ impl<'a> BlockReader<'a> {
     pub fn moved(self, at: usize) -> BlockReader<'a>
         ensures { (result.payload ≡ self.entry.payload) × (result.at ≡ at) }
     {
-        BlockReader {
-            payload: self.payload,
-            at,
-        }
+        BlockReader { at, ..self }
     }
 
     // The block at the reader's place, and the place after it.
@@ -58,6 +54,20 @@ impl<'a> BlockReader<'a> {
         ensures { result ≡ read_at self.entry.payload.now self.entry.at }
     {
         next_at(self.payload, self.at)
+    }
+}
+
+impl<'a> Iterator for BlockReader<'a> {
+    type Item = Block;
+
+    ghost next_gives = { ReadsOn };
+
+    ghost remaining = { item_count blocks_left };
+
+    fn next(&mut self) -> Option<Block> {
+        let next = next_at(self.payload, self.at);
+        self.at = next.at;
+        next.block
     }
 }
 

@@ -2,27 +2,25 @@
 ghost use Rattle.std.specs.Prelude.{◌≡◌};
 ghost use Rattle.rtt.specs.Window.{grown, halved};
 
-use constants::{CWND_MAX, SSTHRESH, UDX_MTU};
+use constants::{SSTHRESH, UDX_MTU};
 
-// The window after a delivery with a new ack. Total: the last step is cut at CWND_MAX, so no sum can wrap.
+// The window after a delivery with a new ack. It stops at 4,294,967,295, the largest u32.
+#[tactic(auto, unfolding(crate::specs::Window::grown))]
 pub fn grow(cwnd: u32) -> u32
     ensures { result ≡ grown cwnd }
 {
-    if cwnd < SSTHRESH {
-        return cwnd + UDX_MTU;
-    }
-    let share = UDX_MTU * UDX_MTU / cwnd;
-    let step = if share < 1 { 1 } else { share };
-    if CWND_MAX - step < cwnd {
-        return CWND_MAX;
-    }
-    cwnd + step
+    let step = if cwnd < SSTHRESH {
+        UDX_MTU
+    } else {
+        (UDX_MTU * UDX_MTU / cwnd).max(1)
+    };
+    cwnd.saturating_add(step)
 }
 
 // The window after a due timeout.
+#[tactic(auto, unfolding(crate::specs::Window::halved))]
 pub fn halve(cwnd: u32) -> u32
     ensures { result ≡ halved cwnd }
 {
-    let half = cwnd / 2;
-    if half < UDX_MTU { UDX_MTU } else { half }
+    (cwnd / 2).max(UDX_MTU)
 }

@@ -32,25 +32,24 @@ impl Rtt {
         requires { (srtt.0 < 2 ^ 60) × (rttvar.0 < 2 ^ 60) }
         ensures { result ≡ timed srtt.0 rttvar.0 }
     {
-        let spread = Nanos(UDX_CLOCK_GRANULARITY).max_of(Nanos(4 * rttvar.0));
-        let rto = Nanos(RTO_MIN).max_of(Nanos(srtt.0 + spread.0));
+        let spread = Nanos(UDX_CLOCK_GRANULARITY).max(Nanos(4 * rttvar.0));
+        let rto = Nanos(RTO_MIN).max(Nanos(srtt.0 + spread.0));
         Rtt { srtt, rttvar, rto }
     }
 
     // The estimate after a sample.
+    #[tactic(auto, unfolding(crate::specs::Estimate::sampled))]
     pub fn sample(self, rtt: Nanos) -> Rtt
         requires { InRange self × (rtt.0 < 2 ^ 60) }
         ensures { Samples self rtt.0 result }
     {
-        let srtt = self.srtt;
-        let rttvar = self.rttvar;
-        if srtt.0 == 0 {
+        if self.srtt.0 == 0 {
             return Rtt::with_rto(rtt, Nanos(rtt.0 / 2));
         }
-        let delta = srtt.abs_diff(rtt);
+        let delta = self.srtt.abs_diff(rtt);
         Rtt::with_rto(
-            Nanos((7 * srtt.0 + rtt.0) / 8),
-            Nanos((3 * rttvar.0 + delta.0) / 4),
+            Nanos((7 * self.srtt.0 + rtt.0) / 8),
+            Nanos((3 * self.rttvar.0 + delta.0) / 4),
         )
     }
 }

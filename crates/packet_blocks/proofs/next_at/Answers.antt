@@ -9,4 +9,4 @@ use Rattle.packet_blocks.proofs.next_at.Goals as goal
 pub overflow_add-result : goal.overflow_add-result
 overflow_add-result c =
     let a = c.args in
-    omega (arith, range_inside a.payload.now a.at _ _ (sym c.block_at.ensures ∙ c.in-Range.is))
+    omega (arith, range_inside a.payload.now a.at _ _ (sym c.block_at.ensures ∙ c.in-Some.is))
