@@ -12,6 +12,7 @@ use mathlib.Core.Bool.{Bool, true, false, cond, ◌&&◌, ◌||◌, not, true≢
 use lib.Dec.{ltb, leb}
 use borrow.Author.Tests.{le-leb, lt-leb, lt-ltb, le-ltb, eq-eqb, ltb-false, leb-false, not-true, not-false}
 use lib.ListN.{length, drop, length-take}
+use Rattle.std.specs.Prelude.{Ok}
 use Rattle.error.specs.declared.UdxError.TheVariants as error
 use Rattle.error.specs.declared.Outcome.TheVariants.{Ready, Done, Nothing}
 use Rattle.packet.specs.Header.{fields, has_type}
@@ -58,7 +59,7 @@ deliver_clear datagram clock e k =
     )
     refl
 
-delivers : (datagram : Bytes) (clock : ℕ) (e : End) → NotDead.Deliverable datagram clock e → (deliver datagram clock e).outcome ≡ Ready
+delivers : (datagram : Bytes) (clock : ℕ) (e : End) → NotDead.Deliverable datagram clock e → (deliver datagram clock e).outcome ≡ Ok Ready
 unfolding deliver
 delivers datagram clock e k =
     ap (λ (a : Answer). a.outcome)
@@ -90,7 +91,7 @@ module _ (bytes : Bytes) (e : End) (k : NotDead.Writable bytes e) where
   counted zero l = absurd (omega arith)
   counted (suc n) l = let q = length-take 1_380 bytes in let t = turn n bytes e k.some_bytes first_goes in omega arith
 
-  writes : ((write bytes e).outcome ≡ Ready) × (min (length bytes) 1_380 ≤ (write bytes e).count)
+  writes : ((write bytes e).outcome ≡ Ok Ready) × (min (length bytes) 1_380 ≤ (write bytes e).count)
   unfolding write
   writes =
       let w = write_loop (length bytes) bytes e in
@@ -112,7 +113,7 @@ driven_rules : (clock : ℕ) (e : End) → drive_refusal clock e ≡ none → ru
 unfolding drive_refusal
 driven_rules clock e z = not-false (rules e) (clear (drive_tests clock e) z 0)
 
-drives : (clock : ℕ) (e : End) → NotDead.Drivable clock e → ((drive clock e).outcome ≡ Ready) ⊎ ((drive clock e).outcome ≡ Done)
+drives : (clock : ℕ) (e : End) → NotDead.Drivable clock e → ((drive clock e).outcome ≡ Ok Ready) ⊎ ((drive clock e).outcome ≡ Ok Done)
 unfolding drive
 drives clock e k =
     subst Q (sym (gate_open (drive_refusal clock e) e acts (drive_clear clock e k)))
@@ -122,10 +123,10 @@ drives clock e k =
     acts = cond (drained e) (answered Done (ended (drive_clock clock e))) (answered Ready (poll_drive clock e))
 
     Q : Answer → Type 0
-    Q a = (a.outcome ≡ Ready) ⊎ (a.outcome ≡ Done)
+    Q a = (a.outcome ≡ Ok Ready) ⊎ (a.outcome ≡ Ok Done)
 
 -- a drive that answered ok was neither refused nor done
-pub polled : (clock : ℕ) (e : End) → (drive clock e).outcome ≡ Ready → (drive_refusal clock e ≡ none) × ((drive clock e).end ≡ poll_drive clock e)
+pub polled : (clock : ℕ) (e : End) → (drive clock e).outcome ≡ Ok Ready → (drive_refusal clock e ≡ none) × ((drive clock e).end ≡ poll_drive clock e)
 unfolding drive
 polled clock e = by_gate Q (drive_refusal clock e) e (cond (drained e) (answered Done (ended (drive_clock clock e))) (answered Ready (poll_drive clock e)))
     (λ why q. absurd (let y : ◌≡◌ {A = ℕ} 0 1 = cc in omega arith))
@@ -133,7 +134,7 @@ polled clock e = by_gate Q (drive_refusal clock e) e (cond (drained e) (answered
     (λ d q. absurd (let y : ◌≡◌ {A = ℕ} 0 1 = cc in omega arith)) (λ d q. (z, refl)))
   where
     Q : Answer → Type 0
-    Q a = a.outcome ≡ Ready → (drive_refusal clock e ≡ none) × (a.end ≡ poll_drive clock e)
+    Q a = a.outcome ≡ Ok Ready → (drive_refusal clock e ≡ none) × (a.end ≡ poll_drive clock e)
 
 -- done
 
@@ -179,7 +180,7 @@ drained_says e r d =
     go n none z f = refl
     go n (some p) z f = let (a, b) = ruled_ranged e r n p z in absurd (no_some (f a (omega arith)) z)
 
-done_drained : (clock : ℕ) (e : End) → (drive clock e).outcome ≡ Done → NotDead.Drained e
+done_drained : (clock : ℕ) (e : End) → (drive clock e).outcome ≡ Ok Done → NotDead.Drained e
 unfolding drive
 done_drained clock e = by_gate Q (drive_refusal clock e) e (cond (drained e) (answered Done (ended (drive_clock clock e))) (answered Ready (poll_drive clock e)))
     (λ why q. absurd (let y : ◌≡◌ {A = ℕ} 0 1 = cc in omega arith))
@@ -187,11 +188,11 @@ done_drained clock e = by_gate Q (drive_refusal clock e) e (cond (drained e) (an
     (λ d q. drained_says e (driven_rules clock e z) d) (λ d q. absurd (let y : ◌≡◌ {A = ℕ} 0 1 = cc in omega arith)))
   where
     Q : Answer → Type 0
-    Q a = a.outcome ≡ Done → NotDead.Drained e
+    Q a = a.outcome ≡ Ok Done → NotDead.Drained e
 
 -- takes
 
-none_left : (room : ℕ) (e : End) → (take room e).outcome ≡ Nothing → e.queue.left ≡ 0
+none_left : (room : ℕ) (e : End) → (take room e).outcome ≡ Ok Nothing → e.queue.left ≡ 0
 unfolding take
 none_left room e =
     by_gate Q (take_refusal room e) e (cond (ltb 0 e.queue.left) (take_answer t e) (answered Nothing e))
@@ -203,7 +204,7 @@ none_left room e =
     t = take_loop (batch e) e.queue.entries e
 
     Q : Answer → Type 0
-    Q a = a.outcome ≡ Nothing → e.queue.left ≡ 0
+    Q a = a.outcome ≡ Ok Nothing → e.queue.left ≡ 0
 
 -- taking entries changes only their packets and the queue
 module _ {A : Type 0} (f : End → A) (marked : (n : ℕ) (p : Packet) (e : End) → f (with_sender (remarked n e.sender.inflight (taken_marks e.clocks.drive) p e.sender) e) ≡ f e) (popped : (q : List Entry) (e : End) → f (with_entries q e) ≡ f e) where
@@ -272,7 +273,7 @@ module _ (room : ℕ) (e : End) (k : NotDead.Takeable room e) where
       go [] w n l = let a = k.some_left in absurd (omega arith)
       go (x ∷ q) w n l = same_some n x q l
 
-  takes : ((take room e).outcome ≡ Ready) × ((take room e).end.queue.left < e.queue.left)
+  takes : ((take room e).outcome ≡ Ok Ready) × ((take room e).end.queue.left < e.queue.left)
   unfolding taken
   takes = (
     ap (λ (a : Answer). a.outcome) take_is,
@@ -362,10 +363,10 @@ begins_polled clock e =
     (begins_timeouts q clock (settle clock (drive_clock clock e))
     (by_settled (Begins q) clock (begins_settled q clock) (e.sender.largest_ack - e.sender.remote_acked) (drive_clock clock e) ([], sym (append-nil q))))
 
-still_queued : (clock : ℕ) (e : End) → (drive clock e).outcome ≡ Ready → (more : List Entry) × ((drive clock e).end.queue.entries ≡ e.queue.entries ++ more)
+still_queued : (clock : ℕ) (e : End) → (drive clock e).outcome ≡ Ok Ready → (more : List Entry) × ((drive clock e).end.queue.entries ≡ e.queue.entries ++ more)
 still_queued clock e z = subst (Begins e.queue.entries) (sym (polled clock e z).1) (begins_polled clock e)
 
-all_left : (clock : ℕ) (e : End) → (drive clock e).outcome ≡ Ready → (drive clock e).end.queue.left ≡ length (drive clock e).end.queue.entries
+all_left : (clock : ℕ) (e : End) → (drive clock e).outcome ≡ Ok Ready → (drive clock e).end.queue.left ≡ length (drive clock e).end.queue.entries
 unfolding poll_drive
 all_left clock e z = subst (λ (x : End). x.queue.left ≡ length x.queue.entries) (sym (polled clock e z).1) refl
 
@@ -495,7 +496,7 @@ flush_waits seq e h n p g w = go (flush_stops count e.sender.remote_acked e h.sl
         let d' = h.seq-is in
         absurd (omega arith)
 
-waits_for_room : (clock : ℕ) (e : End) → length e.sender.outgoing ≡ ceiling → (drive clock e).outcome ≡ Ready → (n : ℕ) (p : Packet)
+waits_for_room : (clock : ℕ) (e : End) → length e.sender.outgoing ≡ ceiling → (drive clock e).outcome ≡ Ok Ready → (n : ℕ) (p : Packet)
     → get (drive clock e).end.sender.outgoing n ≡ some p → p.marks.waiting ≡ true → NotDead.NoRoom (drive clock e).end
 unfolding poll_drive settle
 waits_for_room clock e l z =

@@ -6,6 +6,7 @@ use mathlib.Core.Bool.{Bool, true, false, ◌&&◌}
 use lib.Dec.{leb, eqb}
 use lib.ListN.{length, get_or}
 use borrow.Author.Tests.{eqb-true, le-leb, eq-eqb}
+use Rattle.std.specs.Prelude.{Option}
 use Rattle.error.specs.Answers.{error_or}
 use Rattle.error.specs.declared.UdxError.{UdxError}
 use Rattle.error.specs.declared.Outcome.TheVariants.{Waiting}
@@ -24,9 +25,9 @@ unfolding read read_refusal
 read_answers room e ok none =
     ap (λ a. a.outcome) (gate_open (read_refusal e) e (read_answer (read_next room e.receiver) e) (rw ok refl)) ∙ ap (λ (b : Bool). read_outcome b e) none
 
-read_by : (room : ℕ) (e : End) (why : UdxError) → rules e ≡ true → (read_next room e.receiver).ready ≡ false → e.ending.error ≡ why
+read_by : (room : ℕ) (e : End) (why : Option UdxError) → rules e ≡ true → (read_next room e.receiver).ready ≡ false → e.ending.error ≡ why
     → refused_by (read room e).outcome ≡ refused_by (error_or why Waiting)
-read_by room e why ok none is = ap refused_by (read_answers room e ok none ∙ ap (λ (x : UdxError). error_or x Waiting) is)
+read_by room e why ok none is = ap refused_by (read_answers room e ok none ∙ ap (λ (x : Option UdxError). error_or x Waiting) is)
 
 -- bytes that have no header in front
 

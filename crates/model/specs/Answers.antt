@@ -1,9 +1,8 @@
 -- The answer of a call: the first refusal that applies, or what the call does.
-use Rattle.std.specs.Prelude.{ℕ, List, [], ◌∷◌, Bool, cond}
+use Rattle.std.specs.Prelude.{ℕ, List, [], ◌∷◌, Bool, cond, Result, Err, Ok}
 use Rattle.std.proofs.Math.Option.{Option, none, some}
 use Rattle.error.specs.declared.Refusal.{Refusal}
 use Rattle.error.specs.declared.Outcome.{Outcome}
-use Rattle.error.specs.declared.Outcome.TheVariants.{Refused}
 use Rattle.model.specs.Lists.{Bytes}
 use Rattle.model.specs.Stream.{End}
 
@@ -19,7 +18,7 @@ first (t ∷ ts) = cond t.holds (some t.refusal) (first ts)
 
 -- the answer of a call
 pub record Answer : Type 0 where
-  pub outcome : Outcome
+  pub outcome : Result Outcome Refusal
   -- bytes accepted, taken or put
   pub count : ℕ
   -- the bytes taken or put
@@ -31,11 +30,11 @@ pub record Answer : Type 0 where
 
 -- 01: "Each returns its number and changes nothing"
 abbrev pub refused : Refusal → End → Answer
-refused why e = record { outcome = Refused why; count = 0; bytes = []; segment = none; end = e }
+refused why e = record { outcome = Err why; count = 0; bytes = []; segment = none; end = e }
 
 -- an answer that has no bytes
 abbrev pub answered : Outcome → End → Answer
-answered o e = record { outcome = o; count = 0; bytes = []; segment = none; end = e }
+answered o e = record { outcome = Ok o; count = 0; bytes = []; segment = none; end = e }
 
 -- a refusal, or what the call does
 unfoldable pub gate : Option Refusal → End → Answer → Answer

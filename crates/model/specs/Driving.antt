@@ -1,5 +1,5 @@
 -- What goes out: settling, timeouts, flushing, and the calls drive, take and look.
-use Rattle.std.specs.Prelude.{ℕ, zero, suc, ◌+◌, ◌-◌, ◌*◌, min, List, [], ◌∷◌, ◌++◌, Bool, true, false, cond, ◌&&◌, not, ltb, leb, eqb, length}
+use Rattle.std.specs.Prelude.{ℕ, zero, suc, ◌+◌, ◌-◌, ◌*◌, min, List, [], ◌∷◌, ◌++◌, Bool, true, false, cond, ◌&&◌, not, ltb, leb, eqb, length, Ok}
 use Rattle.std.proofs.Math.Option.{Option, none, some}
 use Rattle.error.specs.declared.UdxError.TheVariants as error
 use Rattle.error.specs.declared.Refusal.{Refusal}
@@ -247,7 +247,7 @@ taken_from entries e = with_queue (record { entries = e.queue.entries; left = e.
 abbrev pub take_answer : Taken → End → Answer
 take_answer t e =
     record {
-      outcome = Ready;
+      outcome = Ok Ready;
       count = length (joined t.datagrams);
       bytes = joined t.datagrams;
       segment = segment_of (batch e) (head_length e.queue.entries);

@@ -1,12 +1,13 @@
 -- Examples computed from the definitions: 01's example session, a packet's way out with its ack's way back, a packet that is resent, one
 -- that is never acknowledged, 01's traps, and other steps that are easily off by one. A wrong definition of one of these steps fails here,
 -- whatever the proofs about all runs say. Statements only: proofs/Examples.antt computes them.
-use Rattle.std.specs.Prelude.{ℕ, ◌≡◌, List, [], ◌∷◌, map, false, length, replicate}
+use Rattle.error.specs.declared.Refusal.{Refusal}
+use Rattle.std.specs.Prelude.{ℕ, ◌≡◌, List, [], ◌∷◌, map, false, length, replicate, Result, Ok, Err, None, Some}
 use Rattle.std.proofs.Math.Option.{none, some}
 use Rattle.error.specs.declared.UdxError.TheVariants as error
 use Rattle.error.specs.declared.Refusal.TheVariants as refusal
 use Rattle.error.specs.declared.Outcome.{Outcome}
-use Rattle.error.specs.declared.Outcome.TheVariants.{Ready, Waiting, Done, Nothing, Refused}
+use Rattle.error.specs.declared.Outcome.TheVariants.{Ready, Waiting, Done, Nothing}
 use Rattle.model.specs.Lists.{Bytes, on}
 use Rattle.model.specs.Slots.{no_slots, get}
 use Rattle.model.specs.Stream.{packet, local_closed, both_closed, Sender, Totals, End, fresh, with_sender, with_totals}
@@ -17,11 +18,11 @@ use Rattle.model.specs.Calls.{Call, write_call, deliver_call, drive_call, take_c
 
 -- a line of the session: outcome, count and bytes read
 pub record SessionLine : Type 0 where
-  pub outcome : Outcome
+  pub outcome : Result Outcome Refusal
   pub count : ℕ
   pub bytes : Bytes
 
-abbrev line : Outcome → ℕ → Bytes → SessionLine
+abbrev line : Result Outcome Refusal → ℕ → Bytes → SessionLine
 line o n bytes = record { outcome = o; count = n; bytes = bytes }
 
 abbrev line_of : Answer → SessionLine
@@ -63,7 +64,7 @@ abbrev lines_of : List Call → End → List SessionLine
 lines_of [] e = []
 lines_of (c ∷ cs) e = let a = answer c e in line_of a ∷ lines_of cs a.end
 
-abbrev outcome_of : SessionLine → Outcome
+abbrev outcome_of : SessionLine → Result Outcome Refusal
 outcome_of l = l.outcome
 
 -- all four running totals at 2^64 - 1
@@ -128,15 +129,15 @@ pub record Examples : Type 0 where
   -- "write 0 ok 3, drive 0 ok 0, take 0 ok 23, take 0 none 0"
   pub session-sender :
       lines_of (write_call aaa ∷ drive_call 0 ∷ take_call 14_000 ∷ take_call 14_000 ∷ []) (fresh 1 2 10 0)
-      ≡ line Ready 3 [] ∷ line Ready 0 [] ∷ line Ready 23 datagram ∷ line Nothing 0 [] ∷ []
+      ≡ line (Ok Ready) 3 [] ∷ line (Ok Ready) 0 [] ∷ line (Ok Ready) 23 datagram ∷ line (Ok Nothing) 0 [] ∷ []
   -- "hand 1 ok 0, read 1 ok 3 414141, read 1 wait 0 -, close 1 ok 0"
   pub session-receiver :
       lines_of (deliver_call datagram 5 ∷ read_call 8 ∷ read_call 8 ∷ close_call ∷ []) (fresh 2 1 10 0)
-      ≡ line Ready 0 [] ∷ line Ready 3 aaa ∷ line Waiting 0 [] ∷ line Ready 0 [] ∷ []
+      ≡ line (Ok Ready) 0 [] ∷ line (Ok Ready) 3 aaa ∷ line (Ok Waiting) 0 [] ∷ line (Ok Ready) 0 [] ∷ []
   -- the receiver's state packet, once it is driven and taken
   pub acknowledged :
       lines_of (deliver_call datagram 5 ∷ drive_call 5 ∷ take_call 14_000 ∷ []) (fresh 2 1 10 0)
-      ≡ line Ready 0 [] ∷ line Ready 0 [] ∷ line Ready 20 (ack_of 1) ∷ []
+      ≡ line (Ok Ready) 0 [] ∷ line (Ok Ready) 0 [] ∷ line (Ok Ready) 20 (ack_of 1) ∷ []
   -- the ack comes back after 400 ms: one sample of 400 ms, so rto = 400 + 4 × 200 ms; the window has grown once
   pub settled-once :
       numbers_of (after (write_call aaa ∷ drive_call 0 ∷ take_call 14_000 ∷ deliver_call (ack_of 1) 400_000_000 ∷ drive_call 400_000_000 ∷ []) (fresh 1 2 10 0))
@@ -165,13 +166,13 @@ pub record Examples : Type 0 where
       ≡ 1 ∷ 3 ∷ 5 ∷ 7 ∷ []
   -- "the fourth fails", and not the third
   pub third-goes :
-      (after (taken (due_at 1_000_000_000 (due_at 3_000_000_000 (due_at 5_000_000_000 [])))) (fresh 1 2 10 0)).ending.error ≡ error.None
+      (after (taken (due_at 1_000_000_000 (due_at 3_000_000_000 (due_at 5_000_000_000 [])))) (fresh 1 2 10 0)).ending.error ≡ None
   pub fourth-fails :
-      (after (taken (due_at 1_000_000_000 (due_at 3_000_000_000 (due_at 5_000_000_000 (drive_call 7_000_000_000 ∷ []))))) (fresh 1 2 10 0)).ending.error ≡ error.TimedOut
+      (after (taken (due_at 1_000_000_000 (due_at 3_000_000_000 (due_at 5_000_000_000 (drive_call 7_000_000_000 ∷ []))))) (fresh 1 2 10 0)).ending.error ≡ Some error.TimedOut
   -- "a packet longer than what remains of the buffer gives its front part and ends the read"; the next read continues there
   pub front-first :
       lines_of (deliver_call (data_of 0 bcd) 5 ∷ read_call 2 ∷ read_call 2 ∷ []) (fresh 2 1 10 0)
-      ≡ line Ready 0 [] ∷ line Waiting 2 (66 ∷ 67 ∷ []) ∷ line Ready 1 (68 ∷ []) ∷ []
+      ≡ line (Ok Ready) 0 [] ∷ line (Ok Waiting) 2 (66 ∷ 67 ∷ []) ∷ line (Ok Ready) 1 (68 ∷ []) ∷ []
   -- a delivered ack becomes the largest ack; it moves remote acked at the next drive, not before
   pub settled-by-drive :
       acks_of (after (taken (deliver_call (ack_of 1) 5 ∷ [])) (fresh 1 2 10 0))
@@ -188,10 +189,10 @@ pub record Examples : Type 0 where
   -- "a repeat replaces" at or past ack; below ack it is not held
   pub repeat-replaces :
       lines_of (deliver_call (data_of 1 aaa) 5 ∷ deliver_call (data_of 1 bcd) 5 ∷ deliver_call (data_of 0 []) 5 ∷ read_call 8 ∷ []) (fresh 2 1 10 0)
-      ≡ line Ready 0 [] ∷ line Ready 0 [] ∷ line Ready 0 [] ∷ line Ready 3 bcd ∷ []
+      ≡ line (Ok Ready) 0 [] ∷ line (Ok Ready) 0 [] ∷ line (Ok Ready) 0 [] ∷ line (Ok Ready) 3 bcd ∷ []
   pub old-not-held :
       lines_of (deliver_call (data_of 0 aaa) 5 ∷ deliver_call (data_of 0 bcd) 5 ∷ read_call 8 ∷ []) (fresh 2 1 10 0)
-      ≡ line Ready 0 [] ∷ line Ready 0 [] ∷ line Ready 3 aaa ∷ []
+      ≡ line (Ok Ready) 0 [] ∷ line (Ok Ready) 0 [] ∷ line (Ok Ready) 3 aaa ∷ []
   -- "received counts every delivery and every DATA payload, repeats too"; each was answered with a state packet
   pub repeats-counted :
       (let t = (after (deliver_call (data_of 0 aaa) 5 ∷ deliver_call (data_of 0 bcd) 5 ∷ []) (fresh 2 1 10 0)).totals in
@@ -203,7 +204,7 @@ pub record Examples : Type 0 where
   -- "An entry whose packet has left the store counts but writes nothing": the ack came before the packet was taken
   pub settled-entry :
       lines_of (write_call aaa ∷ deliver_call (ack_of 1) 5 ∷ drive_call 5 ∷ take_call 14_000 ∷ take_call 14_000 ∷ []) (fresh 1 2 10 0)
-      ≡ line Ready 3 [] ∷ line Ready 0 [] ∷ line Ready 0 [] ∷ line Ready 0 [] ∷ line Nothing 0 [] ∷ []
+      ≡ line (Ok Ready) 3 [] ∷ line (Ok Ready) 0 [] ∷ line (Ok Ready) 0 [] ∷ line (Ok Ready) 0 [] ∷ line (Ok Nothing) 0 [] ∷ []
   -- "until inflight + length exceeds the window": halved to 1,400, the window still lets a packet of 1,400 bytes go again
   pub fills-window :
       (after (write_call (replicate 1_380 65) ∷ drive_call 0 ∷ take_call 14_000 ∷ drive_call 1_000_000_000 ∷ []) (fresh 1 2 10 0)).queue.entries
@@ -242,7 +243,7 @@ pub record Examples : Type 0 where
   -- "if deadline is at most now and remote acked differs from seq": the timer is not due if everything is acknowledged
   pub idle_not_due : (after (drive_call 1_000_000_000 ∷ []) (fresh 1 2 10 0)).sender.cwnd ≡ 2_800
   -- "If an error is set and queue and outgoing store are empty, the answer is done": with nothing stored or queued and no error it is ok
-  pub idle_drive : lines_of (drive_call 0 ∷ []) (fresh 1 2 10 0) ≡ line Ready 0 [] ∷ []
+  pub idle_drive : lines_of (drive_call 0 ∷ []) (fresh 1 2 10 0) ≡ line (Ok Ready) 0 [] ∷ []
   -- every drive queues the packets that wait, also after earlier ones were acknowledged
   pub queued-again :
       (after
@@ -282,22 +283,22 @@ pub record Examples : Type 0 where
   -- END is answered with END; a drive before the delivery's clock is refused; "a read with 14 to 16" meets the error
   pub ended-by-peer :
       lines_of (deliver_call (end_of 2) 5 ∷ read_call 8 ∷ write_call aaa ∷ drive_call 4 ∷ drive_call 5 ∷ take_call 14_000 ∷ []) (fresh 2 1 10 0)
-      ≡ line Ready 0 []
-      ∷ line (Refused refusal.UnexpectedEof) 0 []
-      ∷ line (Refused refusal.UnexpectedEof) 0 []
-      ∷ line (Refused refusal.BadClock) 0 []
-      ∷ line Ready 0 []
-      ∷ line Ready 20 (end_of 1)
+      ≡ line (Ok Ready) 0 []
+      ∷ line (Err refusal.UnexpectedEof) 0 []
+      ∷ line (Err refusal.UnexpectedEof) 0 []
+      ∷ line (Err refusal.BadClock) 0 []
+      ∷ line (Ok Ready) 0 []
+      ∷ line (Ok Ready) 20 (end_of 1)
       ∷ []
   -- a close, until done and after it
   pub closed-to-done :
       lines_of (close_call ∷ write_call aaa ∷ drive_call 0 ∷ take_call 14_000 ∷ drive_call 0 ∷ drive_call 0 ∷ []) (fresh 1 2 10 0)
-      ≡ line Ready 0 []
-      ∷ line (Refused refusal.ConnectionReset) 0 []
-      ∷ line Ready 0 []
-      ∷ line Ready 20 (end_of 2)
-      ∷ line Done 0 []
-      ∷ line (Refused refusal.AfterDone) 0 []
+      ≡ line (Ok Ready) 0 []
+      ∷ line (Err refusal.ConnectionReset) 0 []
+      ∷ line (Ok Ready) 0 []
+      ∷ line (Ok Ready) 20 (end_of 2)
+      ∷ line (Ok Done) 0 []
+      ∷ line (Err refusal.AfterDone) 0 []
       ∷ []
   -- "END closes both sides"; a close closes only the local one
   pub sides-closed :
@@ -308,7 +309,7 @@ pub record Examples : Type 0 where
       (after (close_call ∷ deliver_call (end_of 1) 5 ∷ []) (fresh 1 2 10 0)).ending
       ∷ (after (deliver_call (end_of 2) 5 ∷ close_call ∷ []) (fresh 2 1 10 0)).ending
       ∷ []
-      ≡ record { error = error.UnexpectedEof; state = both_closed; ended = false } ∷ record { error = error.ConnectionReset; state = both_closed; ended = false } ∷ []
+      ≡ record { error = Some error.UnexpectedEof; state = both_closed; ended = false } ∷ record { error = Some error.ConnectionReset; state = both_closed; ended = false } ∷ []
   -- "deadline = now + 2 × rto"
   pub backed-off : (after (taken (drive_call 1_000_000_000 ∷ [])) (fresh 1 2 10 0)).timing.deadline ≡ 3_000_000_000
   -- 'Fresh': "deadline now + rto"
@@ -328,31 +329,31 @@ pub record Examples : Type 0 where
       ∷ deliver_call (datagram_of 0 2 0 0 (replicate 1_380 65)) 5
       ∷ [])
       (fresh 2 1 10 0))
-      ≡ Refused refusal.BadHeader
-      ∷ Refused refusal.OtherStream
-      ∷ Refused refusal.LongPayload
-      ∷ Refused refusal.AckPastSeq
-      ∷ Refused refusal.PastIncoming
-      ∷ Ready
-      ∷ Ready
+      ≡ Err refusal.BadHeader
+      ∷ Err refusal.OtherStream
+      ∷ Err refusal.LongPayload
+      ∷ Err refusal.AckPastSeq
+      ∷ Err refusal.PastIncoming
+      ∷ (Ok Ready)
+      ∷ (Ok Ready)
       ∷ []
   -- refusal 5; and the drive that answered done counts as the last clock
   pub after-done :
       map outcome_of
       (lines_of (close_call ∷ drive_call 0 ∷ take_call 14_000 ∷ drive_call 7 ∷ deliver_call (ack_of 0) 7 ∷ close_call ∷ drive_call 6 ∷ []) (fresh 1 2 10 0))
-      ≡ Ready ∷ Ready ∷ Ready ∷ Done ∷ Refused refusal.AfterDone ∷ Refused refusal.AfterDone ∷ Refused refusal.BadClock ∷ []
+      ≡ Ok Ready ∷ Ok Ready ∷ Ok Ready ∷ Ok Done ∷ Err refusal.AfterDone ∷ Err refusal.AfterDone ∷ Err refusal.BadClock ∷ []
   -- refusal 2 of a take
-  pub short_buffer : map outcome_of (lines_of (take_call 13_999 ∷ take_call 14_000 ∷ []) (fresh 1 2 10 0)) ≡ Refused refusal.ShortBuffer ∷ Nothing ∷ []
+  pub short_buffer : map outcome_of (lines_of (take_call 13_999 ∷ take_call 14_000 ∷ []) (fresh 1 2 10 0)) ≡ Err refusal.ShortBuffer ∷ Ok Nothing ∷ []
   -- a packet that exactly fits is finished
-  pub just_fits : lines_of (deliver_call (data_of 0 aaa) 5 ∷ read_call 3 ∷ []) (fresh 2 1 10 0) ≡ line Ready 0 [] ∷ line Ready 3 aaa ∷ []
+  pub just_fits : lines_of (deliver_call (data_of 0 aaa) 5 ∷ read_call 3 ∷ []) (fresh 2 1 10 0) ≡ line (Ok Ready) 0 [] ∷ line (Ok Ready) 3 aaa ∷ []
   -- "an empty write with 0"
-  pub empty_write : lines_of (write_call [] ∷ []) (fresh 1 2 10 0) ≡ line Ready 0 [] ∷ []
+  pub empty_write : lines_of (write_call [] ∷ []) (fresh 1 2 10 0) ≡ line (Ok Ready) 0 [] ∷ []
   -- look shows the "first entry left to take whose packet is there"
   pub looks_past : look (after (write_call aaa ∷ write_call bcd ∷ deliver_call (ack_of 1) 5 ∷ drive_call 5 ∷ []) (fresh 1 2 10 0)) ≡ data_of 1 bcd
   -- "count; SACK blocks; END; DATA; window": END is answered before its DATA is held
   pub end-before-data :
       lines_of (deliver_call (datagram_of 3 2 0 0 aaa) 5 ∷ drive_call 5 ∷ take_call 14_000 ∷ []) (fresh 2 1 10 0)
-      ≡ line Ready 0 [] ∷ line Ready 0 [] ∷ line Ready 40 (datagram_of 2 1 0 0 (datagram_of 2 1 0 1 [])) ∷ []
+      ≡ line (Ok Ready) 0 [] ∷ line (Ok Ready) 0 [] ∷ line (Ok Ready) 40 (datagram_of 2 1 0 0 (datagram_of 2 1 0 1 [])) ∷ []
   -- "with segment size unless it has one entry"
   pub segments :
       (answer (take_call 14_000) (after (write_call aaa ∷ drive_call 0 ∷ []) (fresh 1 2 10 0))).segment
@@ -377,11 +378,11 @@ pub record Examples : Type 0 where
   pub state-packets-full :
       map outcome_of
       (lines_of (deliver_call datagram 5 ∷ close_call ∷ close_call ∷ []) (after (replicate 62 (deliver_call datagram 5)) (fresh 2 1 10 0)))
-      ≡ Refused refusal.StateQueueFull ∷ Ready ∷ Refused refusal.StateQueueFull ∷ []
+      ≡ Err refusal.StateQueueFull ∷ Ok Ready ∷ Err refusal.StateQueueFull ∷ []
   -- 17: "A write that isn't empty finds seq at 4,294,967,295"
   pub last-number :
       lines_of (write_call aaa ∷ write_call aaa ∷ write_call [] ∷ []) (with_sender before_last (fresh 1 2 10 0))
-      ≡ line Ready 3 [] ∷ line (Refused refusal.SeqExhausted) 0 [] ∷ line Ready 0 [] ∷ []
+      ≡ line (Ok Ready) 3 [] ∷ line (Err refusal.SeqExhausted) 0 [] ∷ line (Ok Ready) 0 [] ∷ []
   -- "TimedOut terminates as in terminate": a state packet with END is left to take
   pub failed-with-end :
       (answer (take_call 14_000)

@@ -2,9 +2,8 @@
 -- with packets queued, queuing everything in the first drive and idling later, inventing inflight or totals." The statement is `NotDead`,
 -- with a field for each of these, for every end, reachable or not. Above it are the calls that 01 accepts, as facts that do not mention the
 -- calls' own tests. Statements only: the proof is proofs/NotDead.antt.
-use Rattle.std.specs.Prelude.{ℕ, ◌+◌, ◌*◌, ◌%◌, ◌^◌, ◌≤◌, ◌<◌, min, ◌≡◌, List, [], ◌∷◌, ◌++◌, ◌⊎◌, true, false, length, drop}
+use Rattle.std.specs.Prelude.{ℕ, ◌+◌, ◌*◌, ◌%◌, ◌^◌, ◌≤◌, ◌<◌, min, ◌≡◌, List, [], ◌∷◌, ◌++◌, ◌⊎◌, true, false, length, drop, Ok, None}
 use Rattle.std.proofs.Math.Option.{none, some}
-use Rattle.error.specs.declared.UdxError.TheVariants as error
 use Rattle.error.specs.declared.Outcome.TheVariants.{Ready, Done, Nothing}
 use Rattle.packet.specs.Header.{fields, has_header, has_type}
 use Rattle.model.specs.Lists.{Bytes, on}
@@ -37,7 +36,7 @@ pub record Deliverable (datagram : Bytes) (clock : ℕ) (e : End) : Type 0 where
 pub record Writable (bytes : Bytes) (e : End) : Type 0 where
   pub rules_hold : rules e ≡ true
   pub none_left : e.queue.left ≡ 0
-  pub no_error : e.ending.error ≡ error.None
+  pub no_error : e.ending.error ≡ None
   pub some_bytes : 1 ≤ length bytes
   pub fits_window : e.sender.inflight + min (length bytes) 1_380 ≤ e.sender.cwnd
   pub fits_store : e.sender.seq < e.sender.remote_acked + ceiling
@@ -61,7 +60,7 @@ pub record Takeable (room : ℕ) (e : End) : Type 0 where
 
 -- 01, call 4: "an error is set and queue and outgoing store are empty"
 pub record Drained (e : End) : Type 0 where
-  pub error_set : e.ending.error ≡ error.None → ⊥
+  pub error_set : e.ending.error ≡ None → ⊥
   pub none_queued : e.queue.entries ≡ []
   pub none_stored : (n : ℕ) → get e.sender.outgoing n ≡ none
 
@@ -93,24 +92,24 @@ pub record Counted (count : ℕ) (before after : End) : Type 0 where
 
 pub record NotDead : Type 0 where
   -- not "refusing every datagram": only what 01 refuses is refused
-  pub delivers : (datagram : Bytes) (clock : ℕ) (e : End) → Deliverable datagram clock e → (deliver datagram clock e).outcome ≡ Ready
+  pub delivers : (datagram : Bytes) (clock : ℕ) (e : End) → Deliverable datagram clock e → (deliver datagram clock e).outcome ≡ Ok Ready
   -- not "answering waiting to all writes": at least the first piece goes
-  pub writes : (bytes : Bytes) (e : End) → Writable bytes e → ((write bytes e).outcome ≡ Ready) × (min (length bytes) 1_380 ≤ (write bytes e).count)
+  pub writes : (bytes : Bytes) (e : End) → Writable bytes e → ((write bytes e).outcome ≡ Ok Ready) × (min (length bytes) 1_380 ≤ (write bytes e).count)
   -- not "answering done .. with packets queued", nor with one stored
-  pub drives : (clock : ℕ) (e : End) → Drivable clock e → ((drive clock e).outcome ≡ Ready) ⊎ ((drive clock e).outcome ≡ Done)
-  pub done_drained : (clock : ℕ) (e : End) → (drive clock e).outcome ≡ Done → Drained e
+  pub drives : (clock : ℕ) (e : End) → Drivable clock e → ((drive clock e).outcome ≡ Ok Ready) ⊎ ((drive clock e).outcome ≡ Ok Done)
+  pub done_drained : (clock : ℕ) (e : End) → (drive clock e).outcome ≡ Ok Done → Drained e
   -- not "answering .. none with packets queued": none is answered only if nothing is left to take; else at least the first entry is taken,
   -- its bytes come first, and fewer are left
-  pub none_left : (room : ℕ) (e : End) → (take room e).outcome ≡ Nothing → e.queue.left ≡ 0
-  pub takes : (room : ℕ) (e : End) → Takeable room e → ((take room e).outcome ≡ Ready) × ((take room e).end.queue.left < e.queue.left)
+  pub none_left : (room : ℕ) (e : End) → (take room e).outcome ≡ Ok Nothing → e.queue.left ≡ 0
+  pub takes : (room : ℕ) (e : End) → Takeable room e → ((take room e).outcome ≡ Ok Ready) × ((take room e).end.queue.left < e.queue.left)
   pub takes_first : (room : ℕ) (e : End) → Takeable room e → (x : Entry) (q : List Entry) → e.queue.entries ≡ x ∷ q
       → (rest : Bytes) × ((take room e).bytes ≡ bytes_of e.sender.outgoing x ++ rest)
   -- not "queuing everything in the first drive and idling later": each drive leaves the whole queue to take, keeps all that was queued
   -- before it, and leaves a packet waiting only if the window has no room
-  pub all_left : (clock : ℕ) (e : End) → (drive clock e).outcome ≡ Ready → (drive clock e).end.queue.left ≡ length (drive clock e).end.queue.entries
-  pub still_queued : (clock : ℕ) (e : End) → (drive clock e).outcome ≡ Ready
+  pub all_left : (clock : ℕ) (e : End) → (drive clock e).outcome ≡ Ok Ready → (drive clock e).end.queue.left ≡ length (drive clock e).end.queue.entries
+  pub still_queued : (clock : ℕ) (e : End) → (drive clock e).outcome ≡ Ok Ready
       → (more : List Entry) × ((drive clock e).end.queue.entries ≡ e.queue.entries ++ more)
-  pub waits_for_room : (clock : ℕ) (e : End) → length e.sender.outgoing ≡ ceiling → (drive clock e).outcome ≡ Ready → (n : ℕ) (p : Packet)
+  pub waits_for_room : (clock : ℕ) (e : End) → length e.sender.outgoing ≡ ceiling → (drive clock e).outcome ≡ Ok Ready → (n : ℕ) (p : Packet)
       → get (drive clock e).end.sender.outgoing n ≡ some p → p.marks.waiting ≡ true → NoRoom (drive clock e).end
   -- not "inventing inflight or totals": a write counts exactly what it sent, a take and a read count nothing. (That inflight and its totals
   -- match the store is a rule of the records, which calls from a fresh stream keep: `NeverBroken`, model_rules/specs/NeverBroken.antt.)

@@ -1,5 +1,5 @@
 -- What arrives: acknowledged packets leave, payloads are held and read; the calls deliver and read.
-use Rattle.std.specs.Prelude.{ℕ, zero, suc, ◌+◌, ◌-◌, ◌^◌, max, List, [], ◌∷◌, ◌++◌, Bool, true, false, cond, ◌&&◌, ◌||◌, not, ltb, leb, eqb, length, take, drop}
+use Rattle.std.specs.Prelude.{ℕ, zero, suc, ◌+◌, ◌-◌, ◌^◌, max, List, [], ◌∷◌, ◌++◌, Bool, true, false, cond, ◌&&◌, ◌||◌, not, ltb, leb, eqb, length, take, drop, Result, Ok}
 use Rattle.std.proofs.Math.Option.{Option, none}
 use Rattle.error.specs.declared.UdxError.TheVariants as error
 use Rattle.error.specs.declared.Refusal.{Refusal}
@@ -231,8 +231,8 @@ unfoldable pub read_next : ℕ → Receiver → Got
 read_next room r = read_loop ceiling room r
 
 -- 01, call 6: "Ready only if a packet was finished, else the error, else waiting, each with the count of bytes put."
-abbrev pub read_outcome : Bool → End → Outcome
-read_outcome true e = Ready
+abbrev pub read_outcome : Bool → End → Result Outcome Refusal
+read_outcome true e = Ok Ready
 read_outcome false e = error_or e.ending.error Waiting
 
 abbrev pub read_answer : Got → End → Answer

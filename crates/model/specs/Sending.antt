@@ -1,5 +1,6 @@
 -- Making packets: headers, state packets, ending, and the calls open, write and close.
-use Rattle.std.specs.Prelude.{ℕ, zero, suc, ◌+◌, ◌-◌, ◌%◌, ◌^◌, List, [], ◌∷◌, ◌++◌, Bool, true, false, cond, ◌&&◌, ◌||◌, not, ltb, leb, length, take, drop}
+use Rattle.std.specs.Prelude as rust
+use Rattle.std.specs.Prelude.{ℕ, zero, suc, ◌+◌, ◌-◌, ◌%◌, ◌^◌, List, [], ◌∷◌, ◌++◌, Bool, true, false, cond, ◌&&◌, ◌||◌, not, ltb, leb, length, take, drop, Result, Ok, None, Some}
 use Rattle.std.proofs.Math.Option.{Option, none}
 use Rattle.error.specs.declared.UdxError.{UdxError}
 use Rattle.error.specs.declared.UdxError.TheVariants as error
@@ -89,11 +90,9 @@ count_state t =
 
 -- state packets and ending
 
-abbrev pub is_set : UdxError → Bool
-is_set error.None = false
-is_set error.ConnectionReset = true
-is_set error.UnexpectedEof = true
-is_set error.TimedOut = true
+abbrev pub is_set : rust.Option UdxError → Bool
+is_set None = false
+is_set (Some why) = true
 
 -- 01, call 3: "State packets carry END once an error is set."
 abbrev pub state_type : Bool → ℕ
@@ -120,7 +119,7 @@ close_remote both_closed = both_closed
 
 -- terminate: the error, local side closed, a state packet
 abbrev pub failed : UdxError → Ending → Ending
-failed why x = record { error = why; state = close_local x.state; ended = x.ended }
+failed why x = record { error = Some why; state = close_local x.state; ended = x.ended }
 
 abbrev pub terminate : UdxError → End → End
 terminate why e = send_state_packet (with_ending (failed why e.ending) e)
@@ -168,23 +167,23 @@ write_loop (suc k) bytes e =
     (record { count = 0; end = e })
 
 -- the stream's error is this one (refusals 14, 15, 16)
-abbrev pub is_reset : UdxError → Bool
-is_reset error.None = false
-is_reset error.ConnectionReset = true
-is_reset error.UnexpectedEof = false
-is_reset error.TimedOut = false
+abbrev pub is_reset : rust.Option UdxError → Bool
+is_reset None = false
+is_reset (Some error.ConnectionReset) = true
+is_reset (Some error.UnexpectedEof) = false
+is_reset (Some error.TimedOut) = false
 
-abbrev pub is_eof : UdxError → Bool
-is_eof error.None = false
-is_eof error.ConnectionReset = false
-is_eof error.UnexpectedEof = true
-is_eof error.TimedOut = false
+abbrev pub is_eof : rust.Option UdxError → Bool
+is_eof None = false
+is_eof (Some error.ConnectionReset) = false
+is_eof (Some error.UnexpectedEof) = true
+is_eof (Some error.TimedOut) = false
 
-abbrev pub is_timed_out : UdxError → Bool
-is_timed_out error.None = false
-is_timed_out error.ConnectionReset = false
-is_timed_out error.UnexpectedEof = false
-is_timed_out error.TimedOut = true
+abbrev pub is_timed_out : rust.Option UdxError → Bool
+is_timed_out None = false
+is_timed_out (Some error.ConnectionReset) = false
+is_timed_out (Some error.UnexpectedEof) = false
+is_timed_out (Some error.TimedOut) = true
 
 -- refusals 1, 6, 14 to 16, 17 of a write
 abbrev pub write_tests : Bytes → End → List Test
@@ -205,7 +204,7 @@ abbrev pub write_outcome : Bytes → ℕ → Outcome
 write_outcome bytes count = cond (is_empty bytes || ltb 0 count) Ready Waiting
 
 abbrev pub written : Bytes → Written → Answer
-written bytes w = record { outcome = write_outcome bytes w.count; count = w.count; bytes = []; segment = none; end = w.end }
+written bytes w = record { outcome = Ok (write_outcome bytes w.count); count = w.count; bytes = []; segment = none; end = w.end }
 
 -- 01, call 2 (poll_write over send_data_packet)
 unfoldable pub write : Bytes → End → Answer

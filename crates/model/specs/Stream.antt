@@ -1,9 +1,9 @@
 -- One end of a stream as a plain value: the groups of its record, a fresh end, and a setter for each group. Instants and spans are
 -- nanoseconds; no definition adds one to a packet number.
-use Rattle.std.specs.Prelude.{ℕ, ◌+◌, List, [], Bool, false}
+use Rattle.std.specs.Prelude as rust
+use Rattle.std.specs.Prelude.{ℕ, ◌+◌, List, [], Bool, false, None}
 use Rattle.std.proofs.Math.Option.{Option}
 use Rattle.error.specs.declared.UdxError.{UdxError}
-use Rattle.error.specs.declared.UdxError.TheVariants as error
 use Rattle.rtt.specs.declared.estimate.Rtt.{Rtt}
 use Rattle.rtt.specs.Estimate as estimate
 use Rattle.model.specs.Lists.{Bytes}
@@ -76,7 +76,7 @@ pub data CloseState : Type 0 where
   both_open local_closed remote_closed both_closed : CloseState
 
 pub record Ending : Type 0 where
-  pub error : UdxError
+  pub error : rust.Option UdxError
   pub state : CloseState
   -- a drive has answered done
   pub ended : Bool
@@ -116,7 +116,7 @@ fresh local remote segments clock =
       receiver = record { ack = 0; read_cursor = 0; incoming = no_slots };
       queue = record { entries = []; left = 0 };
       timing = record { rtt = estimate.fresh; deadline = clock + 1_000_000_000 };
-      ending = record { error = error.None; state = both_open; ended = false };
+      ending = record { error = None; state = both_open; ended = false };
       clocks = record { last = clock; drive = clock };
       totals = record { tx_packets = 0; tx_bytes = 0; rx_packets = 0; rx_bytes = 0; inflight_packets = 0; inflight_bytes = 0 };
     }

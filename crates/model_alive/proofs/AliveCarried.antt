@@ -11,6 +11,7 @@ use lib.Dec.{ltb}
 use lib.ListN.{length, drop, drop_of_length-le}
 use lib.Seq.{take_all}
 use borrow.Author.Tests.{lt-leb, lt-ltb, le-ltb, eq-eqb, leb-false, ltb-false}
+use Rattle.std.specs.Prelude.{Ok}
 use Rattle.error.specs.declared.Outcome.TheVariants.{Ready}
 use Rattle.packet.specs.declared.header.Header.{Header}
 use Rattle.packet.specs.Header.{header_bytes, fields, has_header, has_type}
@@ -93,11 +94,11 @@ module _ (i j segments clock : ℕ) (o : open_refusal segments clock ≡ none) (
       go zero l = absurd (omega arith)
       go (suc k) l = written_end k
 
-  write-outcome : (write bytes start).outcome ≡ Ready
+  write-outcome : (write bytes start).outcome ≡ Ok Ready
   unfolding write
   write-outcome =
       ap (λ (a : Answer). a.outcome) (gate_open (write_refusal bytes start) start _ write_clear)
-      ∙ ap (write_outcome bytes) (first_write (length bytes) bytes start (le_refl _) sends)
+      ∙ ap (λ (k : ℕ). Ok (write_outcome bytes k)) (first_write (length bytes) bytes start (le_refl _) sends)
       ∙ rw (not_empty bytes some_bytes, lt-ltb 0 (min (length bytes) 2_760) (omega arith)) refl
 
   -- the packet
@@ -258,7 +259,7 @@ module _ (j i segments clock : ℕ) (o : open_refusal segments clock ≡ none) (
   got_now : read_next 1_380 delivered.receiver ≡ record { bytes = bytes ++ []; ready = true; receiver = finished holding }
   got_now = ap (read_next 1_380) held_now ∙ got
 
-  read-outcome : (read 1_380 delivered).outcome ≡ Ready
+  read-outcome : (read 1_380 delivered).outcome ≡ Ok Ready
   read-outcome = ap (λ (a : Answer). a.outcome) read_answer_lem ∙ ap (λ (g : Got). read_outcome g.ready delivered) got_now
 
   read_bytes : (read 1_380 delivered).bytes ≡ bytes

@@ -13,6 +13,7 @@ use mathlib.Core.Bool.{Bool, true, false, cond, true≢false}
 use lib.Dec.{ltb}
 use borrow.Author.Tests.{le-leb, eq-eqb, ltb-true}
 use lib.ListN.{length, get_or}
+use Rattle.std.specs.Prelude.{Some}
 use Rattle.error.specs.declared.UdxError.TheVariants as error
 use Rattle.model.specs.Lists.{on}
 use Rattle.model.specs.Slots.{Slots, Numbered, ceiling, get, insert, value_of}
@@ -301,7 +302,7 @@ due_drive local remote segments open-clock o calls clock ready is_due n p z lowe
     subst (λ (x : End). Q x) (sym is) (rw is_due (ends s g (passed clock s g n p z lowest) (exhausts clock s g n p z lowest) (flushes clock s g n p z lowest)))
   where
     Q : End → Type 0
-    Q x = ((x.ending.error ≡ error.TimedOut) × Exhausted (settle clock (drive_clock clock (after calls (fresh local remote segments open-clock)))).sender.outgoing) ⊎ Memᴰ (packet n (length p.bytes)) x.queue.entries
+    Q x = ((x.ending.error ≡ Some error.TimedOut) × Exhausted (settle clock (drive_clock clock (after calls (fresh local remote segments open-clock)))).sender.outgoing) ⊎ Memᴰ (packet n (length p.bytes)) x.queue.entries
 
     ends : (s : End) (g : Driving 0 s) (t : Passed)
         → (t.failed ≡ true → Exhausted (settle clock (drive_clock clock (after calls (fresh local remote segments open-clock)))).sender.outgoing)

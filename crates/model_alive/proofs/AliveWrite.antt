@@ -10,9 +10,11 @@ use mathlib.Core.Option.{none, some}
 use mathlib.Core.Bool.{true, false, cond, ◌&&◌, not}
 use lib.ListN.{length, drop, length-take, length-drop}
 use borrow.Author.Tests.{le-leb, lt-leb, lt-ltb}
+use Rattle.std.specs.Prelude.{Ok}
 use Rattle.model.specs.Lists.{Bytes, is_empty}
 use Rattle.model.specs.Slots.{ceiling}
 use Rattle.error.specs.declared.Refusal.TheVariants.{SeqExhausted}
+use Rattle.error.specs.declared.Outcome.{Outcome}
 use Rattle.error.specs.declared.Outcome.TheVariants.{Ready}
 use Rattle.model.specs.Stream.{Sender, End, fresh}
 use Rattle.model.specs.Answers.{Answer}
@@ -129,4 +131,4 @@ fresh_write local remote segments clock o bytes =
     let w = write_loop (length bytes) bytes e in
     let n = accepted local remote segments clock o bytes in
     let a = gate_open (write_refusal bytes e) e (written bytes w) (accepts local remote segments clock o bytes) in
-    (ap (λ (x : Answer). x.outcome) a ∙ outcome bytes w.count n, ap (λ (x : Answer). x.count) a ∙ n)
+    (ap (λ (x : Answer). x.outcome) a ∙ ap (λ (o : Outcome). Ok o) (outcome bytes w.count n), ap (λ (x : Answer). x.count) a ∙ n)

@@ -8,6 +8,8 @@ use mathlib.Core.List.{List, [], ◌∷◌, Memᴰ}
 use mathlib.Core.Bool.{cond}
 use lib.ListN.{length, take, drop_of_length-le}
 use lib.Seq.{take_all}
+use Rattle.error.specs.declared.Refusal.{Refusal}
+use Rattle.std.specs.Prelude.{Result}
 use Rattle.error.specs.declared.Outcome.{Outcome}
 use Rattle.packet.specs.Header.{header_bytes}
 use Rattle.model.specs.Lists.{Bytes, cut}
@@ -61,6 +63,6 @@ piece_carries i j segmentsA segmentsB clockA clockB idI idJ openA openB bytes l 
       pieces = ap (λ (x : Bytes). cut (length bytes) 1_380 x) whole ∙ cut_one (length bytes) bytes l l m;
       taken = o.one_datagram;
       reads = same;
-      brought = ap (λ (x : Outcome). cond (is_refused x) [] (data_number sent)) h ∙ o.first_number;
+      brought = ap (λ (x : Result Outcome Refusal). cond (is_refused x) [] (data_number sent)) h ∙ o.first_number;
       ack = o.acked;
     }

@@ -1,6 +1,6 @@
 -- Progress: a stream that did nothing would break no safety promise; these facts rule it out. Statements only: the proofs are
 -- proofs/Alive*.antt.
-use Rattle.std.specs.Prelude.{ℕ, ◌≤◌, ◌<◌, min, ◌≡◌, ◌⊎◌, true, false, length}
+use Rattle.std.specs.Prelude.{ℕ, ◌≤◌, ◌<◌, min, ◌≡◌, ◌⊎◌, true, false, length, Ok, Some}
 use mathlib.Core.List.{List, Memᴰ}
 use Rattle.std.proofs.Math.Option.{none, some}
 use Rattle.error.specs.declared.UdxError.TheVariants.{TimedOut}
@@ -20,7 +20,7 @@ FreshWrite =
     (local remote segments clock : ℕ)
     → open_refusal segments clock ≡ none
     → (bytes : Bytes)
-    → let a = write bytes (fresh local remote segments clock) in (a.outcome ≡ Ready) × (a.count ≡ min (length bytes) 2_760)
+    → let a = write bytes (fresh local remote segments clock) in (a.outcome ≡ Ok Ready) × (a.count ≡ min (length bytes) 2_760)
 
 -- One piece written, driven and taken at a fresh end, handed to the other fresh end and read there: every call answers ok, and
 -- the bytes read are the bytes written.
@@ -39,7 +39,7 @@ CarriedOnce =
     let t = take 14_000 d.end in
     let h = deliver t.bytes clockB (fresh j i segmentsB clockB) in
     let r = read 1_380 h.end in
-    (w.outcome ≡ Ready) × (d.outcome ≡ Ready) × (t.outcome ≡ Ready) × (h.outcome ≡ Ready) × (r.outcome ≡ Ready) × (r.bytes ≡ bytes)
+    (w.outcome ≡ Ok Ready) × (d.outcome ≡ Ok Ready) × (t.outcome ≡ Ok Ready) × (h.outcome ≡ Ok Ready) × (r.outcome ≡ Ok Ready) × (r.bytes ≡ bytes)
 
 -- A packet that a due drive fails on: "each stored packet not waiting, ascending, fails with TimedOut if transmits exceeds 5"
 pub record Exhausted (s : Slots Packet) : Type 0 where
@@ -59,9 +59,9 @@ DueDrive =
     → let e = after calls (fresh local remote segments clock) in
     let d = drive at e in
     let s = settle at (drive_clock at e) in
-    d.outcome ≡ Ready
+    d.outcome ≡ Ok Ready
     → due at s ≡ true
     → (n : ℕ) (p : Packet)
     → get s.sender.outgoing n ≡ some p
     → ((m : ℕ) → m < n → get s.sender.outgoing m ≡ none)
-    → ((d.end.ending.error ≡ TimedOut) × Exhausted s.sender.outgoing) ⊎ Memᴰ (packet n (length p.bytes)) d.end.queue.entries
+    → ((d.end.ending.error ≡ Some TimedOut) × Exhausted s.sender.outgoing) ⊎ Memᴰ (packet n (length p.bytes)) d.end.queue.entries

@@ -1,11 +1,11 @@
 -- Demand 3, the two-end theorem: whatever the line loses, repeats, delays or reorders, no byte is lost, shifted or invented. The statement
 -- is `TwoEnds`, at the bottom; above it are its terms, in 01's words ('What the contracts say', 4). Statements only: the proof is
 -- proofs/TwoEnds.antt.
-use Rattle.std.specs.Prelude.{ℕ, zero, suc, ◌-◌, ◌≤◌, ◌<◌, ◌≡◌, ◌⊎◌, Bool, true, false, cond, T, length, take, drop, get_or}
+use Rattle.error.specs.declared.Refusal.{Refusal}
+use Rattle.std.specs.Prelude.{ℕ, zero, suc, ◌-◌, ◌≤◌, ◌<◌, ◌≡◌, ◌⊎◌, Bool, true, false, cond, T, length, take, drop, get_or, Result, Ok, Err}
 use mathlib.Core.List.{List, [], ◌∷◌, ◌++◌, Memᴰ}
 use Rattle.std.proofs.Math.Option.{none, some}
 use Rattle.error.specs.declared.Outcome.{Outcome}
-use Rattle.error.specs.declared.Outcome.TheVariants.{Ready, Waiting, Done, Nothing, Refused}
 use Rattle.packet.specs.Header.{fields, has_type}
 use Rattle.model.specs.Lists.{Bytes, joined, cut, is_empty}
 use Rattle.model.specs.Slots.{get}
@@ -34,12 +34,9 @@ pub record History : Type 0 where
 abbrev pub no_history : History
 no_history = record { accepted = []; pieces = []; reads = []; taken = []; brought = [] }
 
-abbrev pub is_refused : Outcome → Bool
-is_refused Ready = false
-is_refused Waiting = false
-is_refused Done = false
-is_refused Nothing = false
-is_refused (Refused why) = true
+abbrev pub is_refused : Result Outcome Refusal → Bool
+is_refused (Ok o) = false
+is_refused (Err why) = true
 
 -- the number that a datagram brings as DATA
 abbrev pub data_number : Bytes → List ℕ

@@ -55,14 +55,14 @@ ending_remote x f = record { closed = go x.state f.closed; with_error = f.with_e
     go remote_closed z = z
     go both_closed z = z
 
-ending_failed : (why : UdxError) (x : Ending) → is_set why ≡ true → EndingFacts (failed why x)
-ending_failed why x z = record { closed = go x.state; with_error = λ q. z }
+ending_failed : (why : UdxError) (x : Ending) → EndingFacts (failed why x)
+ending_failed why x = record { closed = go x.state; with_error = λ q. refl }
   where
-    go : (s : CloseState) → is_set why ≡ local_is_closed (close_local s)
-    go both_open = z
-    go local_closed = z
-    go remote_closed = z
-    go both_closed = z
+    go : (s : CloseState) → true ≡ local_is_closed (close_local s)
+    go both_open = refl
+    go local_closed = refl
+    go remote_closed = refl
+    go both_closed = refl
 
 -- the calls
 
@@ -94,7 +94,7 @@ ending_incoming clock h payload e f =
     on_ends : (x : End) → EndingIn x → EndingIn (on_data h payload (on_end h x))
     on_ends x f =
         by-test (λ (z : End). EndingIn (on_data h payload z)) (has_type 2 h.typ) (terminate error.UnexpectedEof (with_ending (remote_ended x.ending) x)) x
-        (λ q. on_datas (terminate error.UnexpectedEof (with_ending (remote_ended x.ending) x)) (ending_failed error.UnexpectedEof (remote_ended x.ending) refl)) (λ q. on_datas x f)
+        (λ q. on_datas (terminate error.UnexpectedEof (with_ending (remote_ended x.ending) x)) (ending_failed error.UnexpectedEof (remote_ended x.ending))) (λ q. on_datas x f)
 
 ending_settled : (clock k : ℕ) (e : End) → EndingIn e → EndingIn (settle_loop clock k e)
 unfolding settle_loop
@@ -124,7 +124,7 @@ ending_timeouts clock e f =
     let t = time_out_loop (e.sender.seq - e.sender.remote_acked) e.sender.remote_acked (due_end clock e) in
     by-test EndingIn (due clock e) (time_out_end t) e
     (λ q.
-    by-test EndingIn t.failed (terminate error.TimedOut t.end) t.end (λ z. ending_failed error.TimedOut t.end.ending refl)
+    by-test EndingIn t.failed (terminate error.TimedOut t.end) t.end (λ z. ending_failed error.TimedOut t.end.ending)
     (λ z. ending_timed (e.sender.seq - e.sender.remote_acked) e.sender.remote_acked (due_end clock e) f))
     (λ q. f)
 
@@ -186,7 +186,7 @@ ending_call (take_call room) e f =
     (λ z. by-test EndingInAnswer (ltb 0 e.queue.left) (take_answer t e) (answered Nothing e) (λ q. ending_taken (batch e) e.queue.entries e f) (λ q. f))
 ending_call (read_call room) e f = by_gate EndingInAnswer (read_refusal e) e (read_answer (read_next room e.receiver) e) (λ why. f) (λ z. f)
 ending_call close_call e f =
-    by_gate EndingInAnswer (close_refusal e) e (answered Ready (terminate error.ConnectionReset e)) (λ why. f) (λ z. ending_failed error.ConnectionReset e.ending refl)
+    by_gate EndingInAnswer (close_refusal e) e (answered Ready (terminate error.ConnectionReset e)) (λ why. f) (λ z. ending_failed error.ConnectionReset e.ending)
 
 -- a list of calls
 

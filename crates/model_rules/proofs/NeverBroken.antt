@@ -9,12 +9,14 @@ use mathlib.Core.Option.{Option, none, some}
 use mathlib.Core.Bool.{Bool, true, false, cond, not, ◌&&◌, ◌||◌, true≢false}
 use lib.Dec.{ltb}
 use lib.ListN.{length, get_or, drop}
+use Rattle.std.specs.Prelude as rust
+use Rattle.std.specs.Prelude.{Result, Ok, Err, None, Some}
 use Rattle.error.specs.declared.UdxError.{UdxError}
 use Rattle.error.specs.declared.UdxError.TheVariants as error
 use Rattle.error.specs.declared.Refusal.{Refusal}
 use Rattle.error.specs.declared.Refusal.TheVariants.{BrokenRecords}
 use Rattle.error.specs.declared.Outcome.{Outcome}
-use Rattle.error.specs.declared.Outcome.TheVariants.{Ready, Waiting, Done, Nothing, Refused}
+use Rattle.error.specs.declared.Outcome.TheVariants.{Ready, Waiting, Done, Nothing}
 use Rattle.error.specs.Answers.{number_of, error_or}
 use Rattle.packet.specs.Header.{fields}
 use Rattle.model.specs.Lists.{is_empty}
@@ -55,31 +57,31 @@ rest_first (t ∷ ts) h o e = others_first ts o (rw h at e)
 
 -- the outcome of a call
 
-abbrev NotBroken : Outcome → Type 0
-NotBroken o = o ≡ Refused BrokenRecords → ⊥
+abbrev NotBroken : Result Outcome Refusal → Type 0
+NotBroken o = o ≡ Err BrokenRecords → ⊥
 
 gate_other : (o : Option Refusal) (e : End) (a : Answer) → (o ≡ some BrokenRecords → ⊥) → NotBroken a.outcome → NotBroken (gate o e a).outcome
 unfolding gate
 gate_other none e a f g = g
 gate_other (some why) e a f g = λ q. f (let z : why ≡ BrokenRecords = cc in ap some z)
 
-ready_other : NotBroken Ready
+ready_other : NotBroken (Ok Ready)
 ready_other q = let z : ◌≡◌ {A = ℕ} 0 1 = cc in omega arith
 
-waiting_other : NotBroken Waiting
+waiting_other : NotBroken (Ok Waiting)
 waiting_other q = let z : ◌≡◌ {A = ℕ} 0 1 = cc in omega arith
 
-done_other : NotBroken Done
+done_other : NotBroken (Ok Done)
 done_other q = let z : ◌≡◌ {A = ℕ} 0 1 = cc in omega arith
 
-nothing_other : NotBroken Nothing
+nothing_other : NotBroken (Ok Nothing)
 nothing_other q = let z : ◌≡◌ {A = ℕ} 0 1 = cc in omega arith
 
-error_other : (x : UdxError) → NotBroken (error_or x Waiting)
-error_other error.None = waiting_other
-error_other error.ConnectionReset = λ q. (let z : ◌≡◌ {A = ℕ} 0 1 = cc in omega arith)
-error_other error.UnexpectedEof = λ q. (let z : ◌≡◌ {A = ℕ} 0 1 = cc in omega arith)
-error_other error.TimedOut = λ q. (let z : ◌≡◌ {A = ℕ} 0 1 = cc in omega arith)
+error_other : (x : rust.Option UdxError) → NotBroken (error_or x Waiting)
+error_other None = waiting_other
+error_other (Some error.ConnectionReset) = λ q. (let z : ◌≡◌ {A = ℕ} 0 1 = cc in omega arith)
+error_other (Some error.UnexpectedEof) = λ q. (let z : ◌≡◌ {A = ℕ} 0 1 = cc in omega arith)
+error_other (Some error.TimedOut) = λ q. (let z : ◌≡◌ {A = ℕ} 0 1 = cc in omega arith)
 
 read_other : (b : Bool) (e : End) → NotBroken (read_outcome b e)
 read_other true e = ready_other
@@ -91,7 +93,7 @@ unfolding write write_refusal deliver deliver_refusal drive drive_refusal take t
 call_other (write_call bytes) e r =
     let w = write_loop (length bytes) bytes e in
     gate_other (write_refusal bytes e) e (written bytes w) (rest_first (write_tests bytes e) (ap not r) refl)
-    (by-test NotBroken (is_empty bytes || ltb 0 w.count) Ready Waiting (λ z. ready_other) (λ z. waiting_other))
+    (by-test (λ (o : Outcome). NotBroken (Ok o)) (is_empty bytes || ltb 0 w.count) Ready Waiting (λ z. ready_other) (λ z. waiting_other))
 call_other (deliver_call datagram clock) e r =
     gate_other (deliver_refusal datagram clock e) e (answered Ready (handle_incoming clock (fields datagram) (drop 20 datagram) e))
     (rest_first (deliver_tests clock datagram (fields datagram) (drop 20 datagram) e) (ap not r) refl) ready_other

@@ -1,9 +1,8 @@
 -- Which calls keep the rules of the records: from a fresh stream all of them do; from any end that keeps the rules, a write, a delivery, a
 -- drive and a close do, but a read and a take need not. Statements only: the proofs are proofs/NeverBroken.antt and RulesStay.antt.
-use Rattle.std.specs.Prelude.{ℕ, ◌≡◌, List, Bool, true, false, length}
+use Rattle.std.specs.Prelude.{ℕ, ◌≡◌, List, Bool, true, false, length, Err}
 use Rattle.std.proofs.Math.Option.{none}
 use Rattle.error.specs.declared.Refusal.TheVariants.{BrokenRecords}
-use Rattle.error.specs.declared.Outcome.TheVariants.{Refused}
 use Rattle.model.specs.Slots.{ceiling}
 use Rattle.model.specs.Stream.{End, fresh}
 use Rattle.model.specs.Rules.{rules}
@@ -18,7 +17,7 @@ NeverBroken =
     → open_refusal segments clock ≡ none
     → (calls : List Call)
     → let e = after calls (fresh local remote segments clock) in
-    (rules e ≡ true) × ((c : Call) → (answer c e).outcome ≡ Refused BrokenRecords → ⊥)
+    (rules e ≡ true) × ((c : Call) → (answer c e).outcome ≡ Err BrokenRecords → ⊥)
 
 -- from any end
 
