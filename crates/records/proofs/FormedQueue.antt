@@ -1,46 +1,20 @@
 -- How the queue is laid out: the test `formed_queue` is equivalent to the facts `QueueFormed`, and pushing an entry, ending a drive and
 -- taking entries keep them. Only the number of state packets needs more than arithmetic.
-use Rattle.std.proofs.Common.{◌≡◌, ℕ, ◌+◌, ◌-◌, ◌<◌, Bool, true, false, ◌&&◌, ◌||◌, eqb, ltb, leb, List, [], ◌∷◌, ◌++◌, length, take, drop, set, sym, refl, ap, ◌∙◌, add-one, arith, take-append-drop, take-suc-set, ltb-false, eq-eqb, eqb-true, le-leb, leb-true}
+use Rattle.std.proofs.Common.{◌≡◌, ℕ, ◌+◌, ◌-◌, ◌<◌, true, false, List, [], ◌∷◌, ◌++◌, length, take, drop, set, sym, refl, ap, ◌∙◌, add-one, arith, take-append-drop, take-suc-set}
 use Rattle.records_words.specs.declared.Entry.{Entry}
 use Rattle.records.specs.declared.Queue.{Queue}
 use Rattle.records_words.specs.Words.{entry_of, entry_word}
 use Rattle.records.specs.Seen.{entry_words, state_words, formed_queue, QueueFormed}
-use Rattle.model.proofs.Gate.{and_left, and_right}
 use Rattle.records.proofs.SeenQueue.{words_append, words_rest, words_pushed, words_drive, words_take}
 
 module _ (q : Queue) (words : List ℕ) where
   -- the two are equivalent
 
   pub queue_said : QueueFormed q words → formed_queue q words ≡ true
-  queue_said f =
-      rw (
-        le-leb q.count 128 f.count,
-        le-leb q.left q.count f.left,
-        le-leb q.states 64 f.states,
-        eq-eqb q.states (q.gone + state_words (entry_words q words)) f.places,
-      ) (go (ltb 0 q.left) refl)
-    where
-      go : (b : Bool) → ltb 0 q.left ≡ b → (b || eqb q.gone 0) ≡ true
-      go true e = refl
-      go false e = eq-eqb q.gone 0 (f.gone (let h = ltb-false 0 q.left e in omega arith))
+  queue_said f = grind arith
 
   pub queue_says : formed_queue q words ≡ true → QueueFormed q words
-  queue_says e =
-      let a = leb q.count 128 in
-      let b = leb q.left q.count in
-      let c = leb q.states 64 in
-      let d = eqb q.states (q.gone + state_words (entry_words q words)) in
-      let g = ltb 0 q.left || eqb q.gone 0 in
-      let e₁ = and_right a (b && (c && (d && g))) e in
-      let e₂ = and_right b (c && (d && g)) e₁ in
-      let e₃ = and_right c (d && g) e₂ in
-      record {
-        count = leb-true q.count 128 (and_left a (b && (c && (d && g))) e);
-        left = leb-true q.left q.count (and_left b (c && (d && g)) e₁);
-        states = leb-true q.states 64 (and_left c (d && g) e₂);
-        places = eqb-true q.states (q.gone + state_words (entry_words q words)) (and_left d g e₃);
-        gone = λ z. eqb-true q.gone 0 (rw z at (and_right d g e₃));
-      }
+  queue_says e = grind arith
 
 -- one state packet, or none
 one_state : (w : ℕ) (x : Entry) → entry_of w ≡ x → x.state ≡ true → state_words (w ∷ []) ≡ 1
@@ -113,11 +87,4 @@ module _ (q q' : Queue) (words : List ℕ) (f : QueueFormed q words) where
       }
 
 pub formed_empty : (q : Queue) (words : List ℕ) → q.count ≡ 0 → q.left ≡ 0 → q.states ≡ 0 → q.gone ≡ 0 → QueueFormed q words
-formed_empty q words c l s g =
-    record {
-      count = omega arith;
-      left = omega arith;
-      states = omega arith;
-      places = rw (words_rest q words l, c) (omega arith);
-      gone = λ z. g;
-    }
+formed_empty q words c l s g = grind (arith, words_rest)

@@ -1,4 +1,3 @@
-pub mod OpenLaws
 pub mod Table
 pub mod Put
 pub mod Cut

@@ -1,10 +1,9 @@
 -- What open returns: its outcome, the stream and the totals.
-use Rattle.std.specs.Prelude.{◌≡◌, ℕ, ◌+◌, ◌%◌, ◌^◌, Bool, false, not, ◌||◌, List, length, ◌==◌}
+use Rattle.std.specs.Prelude.{◌≡◌, ℕ, ◌+◌, ◌%◌, ◌^◌, Bool, false, not, ◌||◌, List, length, ◌==◌, Result, Ok, Err, None}
 use Rattle.std.proofs.Math.Option.{Option, none, some}
 use Rattle.error.specs.declared.Refusal.{Refusal}
-use Rattle.error.specs.declared.UdxError.TheVariants as error
 use Rattle.error.specs.declared.Outcome.{Outcome}
-use Rattle.error.specs.declared.Outcome.TheVariants.{Ready, Refused}
+use Rattle.error.specs.declared.Outcome.TheVariants.{Ready}
 use Rattle.rtt.specs.Estimate as estimate
 use Rattle.rtt.specs.Estimate.{nanos}
 use Rattle.model.specs.Answers.{first}
@@ -32,7 +31,7 @@ fresh_stream local remote segments clock =
       receiver = record { ack = 0; read_cursor = 0; top = 0 };
       queue = record { count = 0; left = 0; states = 0; gone = 0 };
       timing = fresh_timing clock;
-      ending = record { error = error.None; state = state.Open; ended = false };
+      ending = record { error = None; state = state.Open; ended = false };
       clocks = record { last = nanos clock; drive = nanos clock };
     }
 
@@ -55,12 +54,12 @@ abbrev pub opened_stream : Option Refusal → Stream → Stream
 opened_stream none s = s
 opened_stream (some why) s = fresh_stream 0 0 0 0
 
-abbrev pub opened_outcome : Option Refusal → Outcome
-opened_outcome none = Ready
-opened_outcome (some why) = Refused why
+abbrev pub opened_outcome : Option Refusal → Result Outcome Refusal
+opened_outcome none = Ok Ready
+opened_outcome (some why) = Err why
 
 abbrev pub refused_open : Refusal → Opened
-refused_open why = record { outcome = Refused why; stream = fresh_stream 0 0 0 0; totals = fresh_totals }
+refused_open why = record { outcome = Err why; stream = fresh_stream 0 0 0 0; totals = fresh_totals }
 
 pub record Opens (local remote segments clock : ℕ) (outgoing incoming headers : List ℕ) (r : Opened) : Type 0 where
   pub outcome : r.outcome ≡ opened_outcome (open_why segments clock outgoing incoming headers)

@@ -1,7 +1,9 @@
 -- What the records and the lent words and stores mean: the model's end that they represent (`seen`), and the rules beyond 01's that come
 -- from how they are laid out (`formed`).
-use Rattle.std.specs.Prelude.{◌≡◌, ℕ, suc, ◌+◌, ◌-◌, ◌%◌, ◌≤◌, Bool, cond, ◌&&◌, ◌||◌, List, [], ◌∷◌, take, drop, ◌==◌, nat_le, nat_lt, slice_index, slice_set}
+use Rattle.std.specs.Prelude as rust
+use Rattle.std.specs.Prelude.{◌≡◌, ℕ, suc, ◌+◌, ◌-◌, ◌%◌, ◌≤◌, Bool, cond, ◌&&◌, ◌||◌, List, [], ◌∷◌, take, drop, ◌==◌, nat_le, nat_lt, slice_index, slice_set, Some, None}
 use Rattle.std.proofs.Math.Option.{Option, none, some}
+use Rattle.rtt.specs.declared.nanos.Nanos.{Nanos}
 use Rattle.model.specs.Lists.{Bytes}
 use Rattle.model.specs.Slots.{Slots, Numbered, ceiling}
 use Rattle.model.specs.Stream as model
@@ -25,8 +27,12 @@ numbered there n v = cond there (some (record { number = n; value = v })) none
 
 -- stored packets: number n is stored if it is from remote acked to below seq and its slot's word is packet n
 
+abbrev pub seen_time : rust.Option Nanos → Option ℕ
+seen_time None = none
+seen_time (Some t) = some t.0
+
 abbrev pub marks_of : Sent → model.Marks
-marks_of p = record { waiting = p.waiting; transmits = p.transmits; sent = cond p.timed (some p.sent_at.0) none }
+marks_of p = record { waiting = p.waiting; transmits = p.transmits; sent = seen_time p.sent_at }
 
 abbrev pub packet_of : Bytes → ℕ → Sent → model.Packet
 packet_of store i p = record { bytes = cut outgoing_slot store i p.length; marks = marks_of p }

@@ -2,17 +2,14 @@
 // three lent stores. specs/Seen.antt defines what they mean.
 #![tactic(auto)]
 
-mod errors;
 pub mod open;
 
-use error::{Outcome, UdxError};
-pub use errors::is_set;
+use error::UdxError;
 pub use open::Opened;
 pub use records_places::slot;
 pub use records_words::{
-    Entry, Held, Sent, clear_held, clear_sent, expose_length, get_entry, get_held, get_sent,
-    is_held, is_short, is_sized, is_stored, least, put_entry, put_held, put_sent, same_packet,
-    word_count,
+    Entry, Held, Sent, clear_held, clear_sent, get_entry, get_held, get_sent, is_held, is_short,
+    is_sized, is_stored, put_entry, put_held, put_sent, same_packet,
 };
 use rtt::{Nanos, Rtt};
 
@@ -38,7 +35,7 @@ pub struct Sender {
     pub cwnd: u32,
 }
 
-#[derive(Clone, Copy)]
+#[derive(Clone, Copy, Default)]
 pub struct Receiver {
     // Every number below it has been delivered; it is at most 32 past the read cursor.
     pub ack: u32,
@@ -50,7 +47,7 @@ pub struct Receiver {
 
 // The queue is the words below `count`, or only the last `left` of them while entries are left to take. Nothing is pushed while some are
 // left, and taking the last one empties the queue, so it needs no ring.
-#[derive(Clone, Copy)]
+#[derive(Clone, Copy, Default)]
 pub struct Queue {
     pub count: u32,
     pub left: u32,
@@ -70,7 +67,7 @@ pub struct Timing {
     pub deadline: Deadline,
 }
 
-// The Rust's StreamState.
+// The Rust's StreamState, in the order of C's numbers for it.
 #[derive(Clone, Copy)]
 pub enum StreamState {
     Open,
@@ -81,7 +78,8 @@ pub enum StreamState {
 
 #[derive(Clone, Copy)]
 pub struct Ending {
-    pub error: UdxError,
+    // None while the stream runs.
+    pub error: Option<UdxError>,
     pub state: StreamState,
     // A drive has answered done.
     pub ended: bool,
@@ -103,12 +101,12 @@ pub struct Stream {
     pub queue: Queue,
     pub timing: Timing,
     pub clocks: Clocks,
-    // Last field: its three bytes would misalign what follows, and copies of that are slow.
+    // Last field: its few bytes would misalign what follows, and copies of that are slow.
     pub ending: Ending,
 }
 
 // The Rust's StreamStats.
-#[derive(Clone, Copy)]
+#[derive(Clone, Copy, Default)]
 pub struct Totals {
     pub tx_packets: u64,
     pub tx_bytes: u64,
@@ -116,4 +114,11 @@ pub struct Totals {
     pub rx_bytes: u64,
     pub inflight_packets: u64,
     pub inflight_bytes: u64,
+}
+
+// The stream and totals after one part of a call. Parameters have the two apart, since a caller may lend its totals (udx_lent).
+#[derive(Clone, Copy)]
+pub struct StreamAndTotals {
+    pub stream: Stream,
+    pub totals: Totals,
 }

@@ -1,6 +1,7 @@
 -- Packets and queue entries as words of lent arrays: what a word decodes to, and the word of a packet or an entry. Only this file and
 -- src/lib.rt know the bits; proofs/WordLaws.antt proves that each direction undoes the other.
-use Rattle.std.specs.Prelude.{ℕ, ◌+◌, ◌-◌, ◌*◌, ◌/◌, ◌%◌, ◌^◌, Bool, cond, not, ◌&&◌, List, ◌==◌, nat_le, slice_index}
+use Rattle.std.specs.Prelude.{ℕ, ◌+◌, ◌-◌, ◌*◌, ◌/◌, ◌%◌, ◌^◌, Bool, cond, not, ◌&&◌, List, ◌==◌, nat_le, slice_index, Some, None}
+use Rattle.std.specs.Option.{option_map_or}
 use Rattle.rtt.specs.Estimate.{nanos}
 use Rattle.records_words.specs.declared.Sent.{Sent}
 use Rattle.records_words.specs.declared.Held.{Held}
@@ -22,8 +23,7 @@ sent_of w time =
       length = low w / 64;
       transmits = low w / 2 % 32;
       waiting = (low w % 2 == 1);
-      timed = not (time == 0);
-      sent_at = nanos (time - 1);
+      sent_at = cond (time == 0) None (Some (nanos (time - 1)));
     }
 
 -- the contents of slot i
@@ -34,7 +34,7 @@ unfoldable pub sent_word : Sent → ℕ
 sent_word p = 4_294_967_296 * p.number + (p.length % 65_536 * 64 + p.transmits % 32 * 2 + cond p.waiting 1 0)
 
 unfoldable pub sent_time : Sent → ℕ
-sent_time p = cond p.timed ((p.sent_at.0 + 1) % 2 ^ 64) 0
+sent_time p = option_map_or (λ t. (t.0 + 1) % 2 ^ 64) p.sent_at 0
 
 -- p is packet n: it has that number, and a length
 abbrev pub is_stored : Sent → ℕ → Bool

@@ -10,9 +10,7 @@
 // A packet's slot is its number mod the number of slots. A word with another number, or with 0 in the length field, is not that packet.
 #![tactic(auto)]
 
-mod lengths;
-
-ghost use Rattle.std.specs.Prelude.{◌≡◌, ◌+◌, ◌-◌, ◌*◌, ◌/◌, ◌%◌, ◌<◌, ◌≤◌, set, if◌then◌else◌, slice_index, slice_set};
+ghost use Rattle.std.specs.Prelude.{◌≡◌, ◌+◌, ◌*◌, ◌/◌, ◌%◌, ◌<◌, ◌≤◌, set, slice_index, slice_set};
 ghost use Rattle.records_words.specs.Words.{
   sent_of,
   sent_in,
@@ -30,7 +28,6 @@ ghost use Rattle.records_words.specs.Words.{
 };
 
 use constants::{HELD_WORDS, QUEUE_WORDS, SENT_WORDS, STORE_SLOTS};
-pub use lengths::{expose_length, least, word_count};
 use records_places::slot;
 use rtt::Nanos;
 
@@ -44,9 +41,8 @@ pub struct Sent {
     pub length: u32,
     pub transmits: u32,
     pub waiting: bool,
-    // Whether `sent_at` is set.
-    pub timed: bool,
-    pub sent_at: Nanos,
+    // The clock of the drive before it was last taken; None until it is first taken.
+    pub sent_at: Option<Nanos>,
 }
 
 // A packet of the incoming store.
@@ -70,36 +66,24 @@ pub struct Entry {
 fn high(w: u64) -> u32
     ensures { result ≡ w / 4_294_967_296 }
 {
-    (w / 4_294_967_296) as u32
+    (w >> 32) as u32
 }
 
 fn low(w: u64) -> u32
     ensures { result ≡ w % 4_294_967_296 }
 {
-    (w % 4_294_967_296) as u32
+    (w & 0xffff_ffff) as u32
 }
 
 fn word(number: u32, rest: u32) -> u64
     ensures { result ≡ 4_294_967_296 * number + rest }
 {
-    4_294_967_296 * (number as u64) + rest as u64
-}
-
-fn bit(t: bool) -> u32
-    ensures { (result ≡ (if t then 1 else 0)) × (result ≤ 1) }
-{
-    if t { 1 } else { 0 }
-}
-
-// t - 1, saturating at 0.
-fn less_one(t: u64) -> u64
-    ensures { result ≡ t - 1 }
-{
-    if t == 0 { 0 } else { t - 1 }
+    ((number as u64) << 32) | rest as u64
 }
 
 // stored packets
 
+#[tactic(auto, unfolding(crate::specs::Words::sent_of))]
 fn sent_of(w: u64, time: u64) -> Sent
     ensures { result ≡ sent_of w time }
 {
@@ -109,8 +93,7 @@ fn sent_of(w: u64, time: u64) -> Sent
         length: rest / 64,
         transmits: rest / 2 % 32,
         waiting: rest % 2 == 1,
-        timed: time != 0,
-        sent_at: Nanos(less_one(time)),
+        sent_at: time.checked_sub(1).map(Nanos),
     }
 }
 
@@ -126,35 +109,36 @@ pub fn get_sent(sent: &[u64; SENT_WORDS], n: u32) -> Sent
 pub fn is_stored(p: Sent, n: u32) -> bool
     ensures { result ≡ is_stored p n }
 {
-    if p.length == 0 { false } else { p.number == n }
+    p.length != 0 && p.number == n
 }
 
 // Whether the slot of number n holds packet n with a length from least to most.
+#[tactic(auto, unfolding(crate::specs::Words::sent_of))]
 pub fn is_sized(sent: &[u64; SENT_WORDS], n: u32, least: u32, most: u32) -> bool
     requires { (least ≤ most) × (most < 67_108_864) }
     ensures { result ≡ is_sized (sent_in sent.now (n % 32)) n least most }
 {
-    let i = slot(n);
-    let w = sent[i];
+    // Number and length, as one integer, are at most `most - least` above n and `least`.
     let from = 67_108_864 * (n as u64) + least as u64;
-    let past = std::num::wrapping_sub_u64(w / 64, from);
+    let past = (sent[slot(n)] / 64).wrapping_sub(from);
     past <= (most - least) as u64
 }
 
+#[tactic(auto, unfolding(crate::specs::Words::sent_word))]
 fn sent_word(p: Sent) -> u64
     ensures { result ≡ sent_word p }
 {
     word(
         p.number,
-        p.length % 65_536 * 64 + p.transmits % 32 * 2 + bit(p.waiting),
+        p.length % 65_536 * 64 + p.transmits % 32 * 2 + p.waiting as u32,
     )
 }
 
+#[tactic(auto, unfolding(crate::specs::Words::sent_time))]
 fn sent_time(p: Sent) -> u64
     ensures { result ≡ sent_time p }
 {
-    let time = std::num::wrapping_add_u64(p.sent_at.0, 1);
-    if p.timed { time } else { 0 }
+    p.sent_at.map_or(0, |t| t.0.wrapping_add(1))
 }
 
 // Puts a packet into the slot of its number.
@@ -163,22 +147,20 @@ pub fn put_sent(sent: &mut [u64; SENT_WORDS], p: Sent)
         (32 + p.number % 32) (sent_time p) }
 {
     let i = slot(p.number);
-    let w = sent_word(p);
-    let t = sent_time(p);
-    sent[i] = w;
-    sent[SLOTS + i] = t;
+    sent[i] = sent_word(p);
+    sent[SLOTS + i] = sent_time(p);
 }
 
 // Empties the slot of number n.
 pub fn clear_sent(sent: &mut [u64; SENT_WORDS], n: u32)
     ensures { sent.new ≡ slice_set sent.old (n % 32) 0 }
 {
-    let i = slot(n);
-    sent[i] = 0;
+    sent[slot(n)] = 0;
 }
 
 // held packets
 
+#[tactic(auto, unfolding(crate::specs::Words::held_of))]
 fn held_of(w: u64) -> Held
     ensures { result ≡ held_of w }
 {
@@ -199,21 +181,22 @@ pub fn get_held(held: &[u64; HELD_WORDS], n: u32) -> Held
 pub fn is_held(p: Held, n: u32) -> bool
     ensures { result ≡ is_held p n }
 {
-    if p.past == 0 { false } else { p.number == n }
+    p.past != 0 && p.number == n
 }
 
 // Whether the slot of number n holds packet n with at most `most` bytes.
+#[tactic(auto, unfolding(crate::specs::Words::held_of))]
 pub fn is_short(held: &[u64; HELD_WORDS], n: u32, most: u32) -> bool
     requires { most < 65_535 }
     ensures { result ≡ is_short (held_of (slice_index held.now (n % 32))) n most }
 {
-    let i = slot(n);
-    let w = held[i];
+    // Number and length, as one integer, are at most `most` above those of an empty packet n.
     let from = 65_536 * (n as u64) + 1;
-    let past = std::num::wrapping_sub_u64(w / 65_536, from);
+    let past = (held[slot(n)] / 65_536).wrapping_sub(from);
     past <= most as u64
 }
 
+#[tactic(auto, unfolding(crate::specs::Words::held_word))]
 fn held_word(p: Held) -> u64
     ensures { result ≡ held_word p }
 {
@@ -223,20 +206,18 @@ fn held_word(p: Held) -> u64
 pub fn put_held(held: &mut [u64; HELD_WORDS], p: Held)
     ensures { held.new ≡ slice_set held.old (p.number % 32) (held_word p) }
 {
-    let i = slot(p.number);
-    let w = held_word(p);
-    held[i] = w;
+    held[slot(p.number)] = held_word(p);
 }
 
 pub fn clear_held(held: &mut [u64; HELD_WORDS], n: u32)
     ensures { held.new ≡ slice_set held.old (n % 32) 0 }
 {
-    let i = slot(n);
-    held[i] = 0;
+    held[slot(n)] = 0;
 }
 
 // queue entries
 
+#[tactic(auto, unfolding(crate::specs::Words::entry_of))]
 fn entry_of(w: u64) -> Entry
     ensures { result ≡ entry_of w }
 {
@@ -256,27 +237,26 @@ pub fn get_entry(queue: &[u64; QUEUE_WORDS], i: usize) -> Entry
 }
 
 // Whether the word in the slot of entry i's number has that number and length.
+#[tactic(auto, unfolding(crate::specs::Words::sent_of, crate::specs::Words::entry_of))]
 pub fn same_packet(queue: &[u64; QUEUE_WORDS], i: usize, sent: &[u64; SENT_WORDS]) -> bool
     requires { i < 128 }
     ensures { result ≡ same_packet (sent_in sent.now ((entry_of (slice_index queue.now i)).number % 32))
         (entry_of (slice_index queue.now i)) }
 {
     let w = queue[i];
-    let at = slot(high(w));
-    let p = sent[at];
-    p / 64 == w / 64
+    sent[slot(high(w))] / 64 == w / 64
 }
 
+#[tactic(auto, unfolding(crate::specs::Words::entry_word))]
 fn entry_word(x: Entry) -> u64
     ensures { result ≡ entry_word x }
 {
-    word(x.number, x.length % 65_536 * 64 + bit(x.state))
+    word(x.number, x.length % 65_536 * 64 + x.state as u32)
 }
 
 pub fn put_entry(queue: &mut [u64; QUEUE_WORDS], i: usize, x: Entry)
     requires { i < 128 }
     ensures { queue.new ≡ slice_set queue.old i (entry_word x) }
 {
-    let w = entry_word(x);
-    queue[i] = w;
+    queue[i] = entry_word(x);
 }
