@@ -8,19 +8,17 @@ ghost use Rattle.rules_lent.specs.Broken.{broken_records, lent};
 use constants::{
     HEADER_STORE, HELD_WORDS, INCOMING_STORE, OUTGOING_STORE, QUEUE_WORDS, SENT_WORDS,
 };
-use records::{Stream, Totals, word_count};
+use records::{Stream, Totals};
 
 // "A lent store has another length than above"
 fn stores_differ(outgoing: &[u8], incoming: &[u8], headers: &[u8]) -> bool
     ensures { result ≡ stores_test outgoing.now incoming.now headers.now }
 {
-    if outgoing.len() == OUTGOING_STORE {
-        if incoming.len() == INCOMING_STORE {
-            return headers.len() != HEADER_STORE;
-        }
-    }
-    true
+    outgoing.len() != OUTGOING_STORE
+        || incoming.len() != INCOMING_STORE
+        || headers.len() != HEADER_STORE
 }
+
 // Refusal 1: "A lent store has another length than above, or a rule of the records is broken"
 pub fn broken(
     s: Stream,
@@ -37,15 +35,5 @@ pub fn broken(
         incoming.now headers.now))
         × (length queue.now ≡ 128) }
 {
-    // Unreachable: tells the prover the length.
-    if word_count(queue) != QUEUE_WORDS {
-        return true;
-    }
-    if stores_differ(outgoing, incoming, headers) {
-        return true;
-    }
-    if rules_stream::ok_stream(s, t, sent, held, queue) {
-        return false;
-    }
-    true
+    stores_differ(outgoing, incoming, headers) || !rules_stream::ok_stream(s, t, sent, held, queue)
 }

@@ -4,8 +4,8 @@ use Prim.Native.Nat.{ℕ, suc, ◌+◌, ◌-◌, ◌<◌, ◌≤◌}
 use native.Mathlib.Numerals.{add-one}
 use native.Mathlib.Nat.{add_assoc, add-zero, zero-add}
 use native.Mathlib.Omega.{arith}
-use mathlib.Core.Path.{◌≡◌, refl}
-use mathlib.Core.Bool.{Bool, true, false, ◌&&◌}
+use mathlib.Core.Path.{◌≡◌}
+use mathlib.Core.Bool.{Bool, true, false}
 use Rattle.rules_packets.specs.Packets.{every_from, sum_from}
 
 -- one more number: how many are left
@@ -14,11 +14,6 @@ left n e h = omega arith
 
 none : (n e : ℕ) → e ≤ n → e - n ≡ 0
 none n e h = omega arith
-
-pub swap : (a b c : Bool) → ((a && b) && c) ≡ (b && (a && c))
-swap true b c = refl
-swap false true c = refl
-swap false false c = refl
 
 module _ (f : ℕ → Bool) (n e : ℕ) where
   pub every_done : e ≤ n → true ≡ every_from (e - n) n f

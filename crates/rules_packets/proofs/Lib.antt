@@ -1,7 +1,6 @@
 pub mod Bools
 pub mod From
 pub mod Held
-pub mod Pieces
 pub mod SeenPackets
 pub mod SeenStore
 pub mod Stored

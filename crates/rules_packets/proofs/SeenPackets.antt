@@ -17,7 +17,7 @@ use Rattle.records.specs.declared.Totals.{Totals}
 use Rattle.records_words.specs.Words.{sent_in, is_stored, held_of, is_held}
 use Rattle.records.specs.Seen.{packet_of, held_payload, seen_outgoing, seen_incoming, seen_sender, seen_receiver, seen_totals, formed_receiver}
 use Rattle.rules_packets.specs.Packets.{every_from, sum_from, stored_ok, inflight_at, packets_at, payload_at, ok_sender, held_ok, ok_receiver}
-use Rattle.rules_packets.proofs.Pieces.{cut_length}
+use Rattle.records.proofs.Cut.{cut_length}
 use Rattle.rules_packets.proofs.SeenStore.{View, found, every_seen, sum_seen}
 
 -- stored packets

@@ -9,6 +9,7 @@ use mathlib.Core.Logic.{◌≢◌}
 use mathlib.Core.Option.{Option, none, some}
 use mathlib.Core.Bool.{Bool, true, false, cond, ◌&&◌, and-false}
 use lib.Dec.{ltb, leb, eqb}
+use lib.ListN.{get_or, get_or-eq_default}
 use borrow.Author.Tests.{ltb-true, ltb-false, leb-true, eqb-true, lt-ltb, le-leb, eq-eqb, ne_eqb}
 use Rattle.model.specs.Lists.{on}
 use Rattle.model.specs.Slots.{Numbered, Slots, ceiling, value_of, get}
@@ -21,7 +22,11 @@ use Rattle.model.proofs.Gate.{and_left, and_right}
 use Rattle.records.specs.Table.{table}
 use Rattle.records.specs.Seen.{numbered, in_slot}
 use Rattle.rules_packets.specs.Packets.{every_from, sum_from}
-use Rattle.rules_packets.proofs.Pieces.{table_length, table_at, table_past}
+use Rattle.records.proofs.Table.{table_length, table_get}
+
+-- past its end a table has nothing
+table_past : {A : Type 0} (k : ℕ) (f : ℕ → A) (i : ℕ) (d : A) → k ≤ i → get_or (table k f) i d ≡ d
+table_past k f i d h = get_or-eq_default (table k f) d (let l = table_length k f in omega arith)
 
 -- over numbers alone
 
@@ -87,7 +92,7 @@ module _ {A : Type 0} (w : View A) where
 
   pub found : (n : ℕ) → get (store w) n ≡ cond (leb w.low n && (ltb n w.high && has w n)) (some (w.value (n % ceiling))) none
   unfolding get
-  found n = ap (value_of n) (table_at ceiling (slot_at w) (n % ceiling) none (omega arith)) ∙ slot_value n (w.number (n % ceiling)) (w.value (n % ceiling))
+  found n = ap (value_of n) (table_get ceiling (slot_at w) (n % ceiling) none (omega arith)) ∙ slot_value n (w.number (n % ceiling)) (w.value (n % ceiling))
 
   found_on : {B : Type 0} (b : B) (f : A → B) (n : ℕ) → w.low ≤ n → n < w.low + (w.high - w.low) → on (get (store w) n) b f ≡ cond (has w n) (f (w.value (n % ceiling))) b
   found_on {B} b f n h k = ap (λ (o : Option A). on o b f) (found n) ∙ rw (le-leb w.low n h, lt-ltb n w.high (omega arith)) (pick (has w n))
@@ -112,7 +117,7 @@ module _ {A : Type 0} (w : View A) where
     where
       go : (b : Bool) → ltb i ceiling ≡ b → (x.number % ceiling ≡ i) × ((w.low ≤ x.number) × (x.number < w.low + (w.high - w.low)))
       go true z =
-          let (h, n) = numbered_some (w.value i) (holds w i (w.number i)) (w.number i) x (sym (table_at ceiling (slot_at w) i none (ltb-true i ceiling z)) ∙ e) in
+          let (h, n) = numbered_some (w.value i) (holds w i (w.number i)) (w.number i) x (sym (table_get ceiling (slot_at w) i none (ltb-true i ceiling z)) ∙ e) in
           holds_says i x.number (rw n at h)
       go false z = absurd (no_some (table_past ceiling (slot_at w) i none (ltb-false i ceiling z)) e)
 

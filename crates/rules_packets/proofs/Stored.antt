@@ -4,15 +4,17 @@ use native.Mathlib.Omega.{arith}
 use native.Mathlib.Nat.{zero-add}
 use mathlib.Core.Path.{◌≡◌, refl, ◌∙◌, sym}
 use mathlib.Core.List.{List}
+use Rattle.std.specs.Prelude.{Some, None}
 use mathlib.Core.Bool.{Bool, true, false, cond, ◌&&◌, not, and_assoc, and-false}
 use lib.Dec.{leb, eqb}
-use borrow.Author.Tests.{le-leb, lt-leb, lt-ltb, eq-eqb, ne_eqb, leb-true}
+use borrow.Author.Tests.{le-leb, lt-ltb, eq-eqb, ne_eqb, leb-true}
 use Rattle.records_words.specs.declared.Sent.{Sent}
 use Rattle.records.specs.declared.Sender.{Sender}
 use Rattle.records.specs.declared.Totals.{Totals}
 use Rattle.records_words.specs.Words.{sent_in, is_stored, is_sized}
 use Rattle.rules_packets.specs.Packets.{every_from, sum_from, stored_ok, inflight_at, packets_at, payload_at, sender_numbers_ok, ok_sender}
-use Rattle.rules_packets.specs.Passes.{in_time, packet_ok, kept_ok, StoredSums}
+use Rattle.rules_packets.specs.declared.sender.Sums.{Sums}
+use Rattle.rules_packets.specs.Passes.{in_time, packet_ok, kept_ok, stored_sums}
 use Rattle.rules_packets.proofs.Bools.{and_left, and_right}
 use Rattle.rules_packets.proofs.From.{every_done, every_turn, every_stop, sum_done, sum_turn, sum_skip}
 
@@ -34,16 +36,17 @@ kept_is p n clock =
     chain (eqb p.number n) (leb 21 p.length) (leb p.length 1_400) (leb p.transmits 7) (in_time p clock) (not (eqb p.length 0)) (full p.length)
 
 -- the test as the code computes it
-pub kept_by : (words : List ℕ) (n clock : ℕ) (p : Sent) (fits few time kept : Bool) → p ≡ sent_in words (n % 32) → fits ≡ is_sized (sent_in words (n % 32)) n 21 1_400
-    → few ≡ (fits && leb p.transmits 7) → time ≡ in_time p clock → kept ≡ (few && time) → kept ≡ kept_ok p n clock
-kept_by words n clock p fits few time kept p-is fits_is few-is time-is kept_is = rw (kept_is, few-is, fits_is, time-is, p-is)
+pub kept_by : (words : List ℕ) (n clock : ℕ) (p : Sent) (sized timely : Bool) → p ≡ sent_in words (n % 32) → sized ≡ is_sized (sent_in words (n % 32)) n 21 1_400
+    → timely ≡ in_time p clock → ((sized && leb p.transmits 7) && timely) ≡ kept_ok p n clock
+kept_by words n clock p sized timely p-is sized-is timely-is = rw (sized-is, timely-is, p-is)
 
 -- the payload with one more packet
 payload_more : (lengths packets l : ℕ) → 20 * packets ≤ lengths → 20 ≤ l → lengths + l - 20 * (packets + 1) ≡ lengths - 20 * packets + (l - 20)
 payload_more lengths packets l h k = omega arith
 
-differ : (b : Bool) → b ≡ false → b ≡ true → ⊥
-differ b e h = let z : ◌≡◌ {A = ℕ} 0 1 = cc in omega arith
+at_most : (b : Bool) (l : ℕ) → cond b 0 l ≤ l
+at_most true l = omega arith
+at_most false l = omega arith
 
 module _ (acked seq clock : ℕ) (words : List ℕ) where
   -- from acked to below seq, only the packet's own rules are left to check
@@ -100,9 +103,10 @@ module _ (acked seq clock : ℕ) (words : List ℕ) where
         }
 
     -- a packet that keeps its rules
-    pub turn : (x : ℕ) → kept_ok p n clock ≡ true → x ≡ cond p.waiting 0 p.length → x ≤ 4_294_967_295 → p.length ≤ 4_294_967_295
+    pub turn : (x : ℕ) → kept_ok p n clock ≡ true → x ≡ cond p.waiting 0 p.length → p.length ≤ 4_294_967_295
         → Going (n + 1) (inflight + x) (packets + 1) (lengths + p.length)
-    turn x e b x-few l-few =
+    turn x e x-is l-few =
+        let x-few = at_most p.waiting p.length in
         let r = rule_of n g.begun k in
         let whole = sym (kept_is p n clock) ∙ e in
         let here = and_left (is_stored p n) (packet_ok p clock) whole in
@@ -112,7 +116,7 @@ module _ (acked seq clock : ℕ) (words : List ℕ) where
         let h = g.headers in
         record {
           all = every_turn _ n seq k (r ∙ rw (← p-is, here) own) ∙ g.all;
-          inflight_is = sum_turn _ n seq inflight x k (sym (rw (← p-is, here) (sym b))) ∙ g.inflight_is;
+          inflight_is = sum_turn _ n seq inflight x k (sym (rw (← p-is, here) (sym x-is))) ∙ g.inflight_is;
           packets_is = sum_turn _ n seq packets 1 k (sym (rw (← p-is, here) refl)) ∙ g.packets_is;
           bytes_is = rw more (sum_turn _ n seq (lengths - 20 * packets) (p.length - 20) k (sym (rw (← p-is, here) refl)) ∙ g.bytes_is);
           headers = omega arith;
@@ -130,55 +134,44 @@ module _ (acked seq clock : ℕ) (words : List ℕ) where
         every_stop _ n seq k (rule_of n g.begun k ∙ rw (← p-is, here) own) ∙ g.all
 
   pub done : (n : ℕ) (inflight packets lengths : ℕ) → Going n inflight packets lengths → seq ≤ n
-      → StoredSums acked seq clock words true inflight packets (lengths - 20 * packets)
+      → Some (record { inflight = inflight; packets = packets; bytes = lengths - 20 * packets }) ≡ stored_sums acked seq clock words
   done n inflight packets lengths g k =
-      record {
-        all = every_done _ n seq k ∙ g.all;
-        inflight_is = λ _. sym (sum_done _ n seq inflight k) ∙ g.inflight_is;
-        packets_is = λ _. sym (sum_done _ n seq packets k) ∙ g.packets_is;
-        bytes_is = λ _. sym (sum_done _ n seq (lengths - 20 * packets) k) ∙ g.bytes_is;
-      }
+      rw (
+        ← every_done _ n seq k ∙ g.all,
+        ← sym (sum_done _ n seq inflight k) ∙ g.inflight_is,
+        ← sym (sum_done _ n seq packets k) ∙ g.packets_is,
+        ← sym (sum_done _ n seq (lengths - 20 * packets) k) ∙ g.bytes_is,
+      )
 
-  pub ended : (good : Bool) (inflight packets bytes : ℕ) → good ≡ false → false ≡ every_from (seq - acked) acked (stored_ok acked seq clock words)
-      → StoredSums acked seq clock words good inflight packets bytes
-  ended good inflight packets bytes e w =
-      record {
-        all = e ∙ w;
-        inflight_is = λ h. absurd (differ good e h);
-        packets_is = λ h. absurd (differ good e h);
-        bytes_is = λ h. absurd (differ good e h);
-      }
+  pub ended : false ≡ every_from (seq - acked) acked (stored_ok acked seq clock words) → None ≡ stored_sums acked seq clock words
+  ended w = rw (← w)
 
 -- the numbers and the sums
 
+none_if : {A : Type 0} (b : Bool) (x : A) → None ≡ cond b (Some x) None → b ≡ false
+none_if true x e = cc
+none_if false x e = refl
+
+some_if : {A : Type 0} (b : Bool) (a x : A) → Some a ≡ cond b (Some x) None → (b ≡ true) × (a ≡ x)
+some_if true a x e = (refl, cc)
+some_if false a x e = (cc, cc)
+
 module _ (s : Sender) (t : Totals) (clock : ℕ) (words : List ℕ) where
-  pub below : s.seq < s.remote_acked → false ≡ ok_sender s t clock words
+  pub broken : s.remote_acked ≤ s.seq → s.seq ≤ s.remote_acked + 32 → None ≡ stored_sums s.remote_acked s.seq clock words
+      → false ≡ ok_sender s t clock words
   unfolding ok_sender
-  below h = simp (lt-leb s.remote_acked s.seq h)
+  broken h k w = simp (le-leb s.remote_acked s.seq h, le-leb s.seq (s.remote_acked + 32) k, none_if _ _ w, and-false)
 
-  pub far : s.remote_acked ≤ s.seq → s.remote_acked + 32 < s.seq → false ≡ ok_sender s t clock words
-  unfolding ok_sender
-  far h k = simp (le-leb s.remote_acked s.seq h, lt-leb s.seq (s.remote_acked + 32) k)
-
-  pub near : (good : Bool) (inflight packets bytes : ℕ) → s.remote_acked ≤ s.seq → s.seq ≤ s.remote_acked + 32
-      → StoredSums s.remote_acked s.seq clock words good inflight packets bytes
+  pub near : (found : Sums) → s.remote_acked ≤ s.seq → s.seq ≤ s.remote_acked + 32
+      → Some found ≡ stored_sums s.remote_acked s.seq clock words
       → (leb s.largest_ack s.seq
-      && (good
-      && ((eqb s.inflight inflight && (eqb t.inflight_packets packets && eqb t.inflight_bytes bytes))
-      && (leb 1_400 s.cwnd && leb s.cwnd 4_294_967_295))))
+      && ((eqb s.inflight found.inflight && (eqb t.inflight_packets found.packets && eqb t.inflight_bytes found.bytes))
+      && (leb 1_400 s.cwnd && leb s.cwnd 4_294_967_295)))
       ≡ ok_sender s t clock words
   unfolding ok_sender
-  near true inflight packets bytes h k w =
-      simp (
-        le-leb s.remote_acked s.seq h,
-        le-leb s.seq (s.remote_acked + 32) k,
-        sym w.all,
-        w.inflight_is refl,
-        w.packets_is refl,
-        w.bytes_is refl,
-      )
-  near false inflight packets bytes h k w =
-      simp (le-leb s.remote_acked s.seq h, le-leb s.seq (s.remote_acked + 32) k, sym w.all, and-false)
+  near found h k w =
+      let (all, sums) = some_if _ _ _ w in
+      simp (le-leb s.remote_acked s.seq h, le-leb s.seq (s.remote_acked + 32) k, all, sums)
 
   -- a sender that keeps its rules has seq at most 32 past remote acked
   pub near_of : ok_sender s t clock words ≡ true → s.seq ≤ s.remote_acked + 32

@@ -1,7 +1,7 @@
 -- 01's rules of the stored and the held packets, over the records' numbers and words, packets in number order. No byte of a store is read.
 -- proofs/SeenPackets.antt proves that they are exactly the model's rules of what is seen, and the receiver's layout.
 use Rattle.std.specs.Prelude.{ℕ, zero, suc, ◌+◌, ◌-◌, ◌%◌, List, Bool, true, cond, ◌&&◌, leb, eqb, get_or}
-use Rattle.std.proofs.Math.Option.{Option, none, some}
+use Rattle.std.proofs.Math.Option.{Option}
 use Rattle.model.specs.Slots.{ceiling}
 use Rattle.model.specs.Rules.{stored_rule, held_rule, cwnd_range}
 use Rattle.records_words.specs.declared.Sent.{Sent}
@@ -9,7 +9,7 @@ use Rattle.records.specs.declared.Sender.{Sender}
 use Rattle.records.specs.declared.Receiver.{Receiver}
 use Rattle.records.specs.declared.Totals.{Totals}
 use Rattle.records_words.specs.Words.{sent_in, is_stored, held_of, is_held}
-use Rattle.records.specs.Seen.{formed_receiver}
+use Rattle.records.specs.Seen.{seen_time, formed_receiver}
 
 -- tests and sums over `count` numbers from n on
 
@@ -24,7 +24,7 @@ sum_from (suc k) n f = f n + sum_from k (suc n) f
 -- the stored packets
 
 abbrev pub time_sent : Sent → Option ℕ
-time_sent p = cond p.timed (some p.sent_at.0) none
+time_sent p = seen_time p.sent_at
 
 -- "stored numbers lie from remote acked to below seq", "lengths are 21 to 1,400 stored", "transmits are at most 7", "neither a time sent ..
 -- is past the last clock"

@@ -5,7 +5,7 @@ use native.Mathlib.Nat.{zero-add, add-zero}
 use native.Mathlib.Omega.{arith}
 use mathlib.Core.Path.{◌≡◌, refl, ap, ◌∙◌, sym}
 use mathlib.Core.List.{List, [], ◌∷◌}
-use mathlib.Core.Bool.{Bool, true, false, cond, ◌&&◌, not, and-true}
+use mathlib.Core.Bool.{Bool, true, false, cond, ◌&&◌, not, and_assoc, and_comm, and-true}
 use lib.Dec.{leb, ltb, eqb}
 use lib.ListN.{length, get_or, set, take, drop, replicate, length-set, length-take, drop_of_length-le}
 use lib.Seq.{slice-cons}
@@ -15,7 +15,6 @@ use Rattle.records_words.specs.declared.Entry.{Entry}
 use Rattle.records_words.specs.Words.{sent_in, is_stored, entry_of, same_packet}
 use Rattle.rules_queue.specs.Entries.{state_count, packet_numbers}
 use Rattle.rules_queue.specs.Passes.{known, sized, queued_ok, plain_ok, entry_rule, EntriesPassed}
-use Rattle.rules_packets.proofs.From.{swap}
 use Rattle.rules_packets.proofs.Bools.{and_left, and_right}
 use Rattle.rules_queue.proofs.Marks.{free, fresh, fresh_from_none}
 
@@ -69,8 +68,8 @@ module _ (acked seq first end : ℕ) (sent words : List ℕ) where
         }
 
     pub packet : (near q f : Bool) → x.state ≡ false → near ≡ known acked seq x.number → q ≡ queued_ok near sent x
-        → f ≡ (near && not (get_or marks (x.number % 32) false))
-        → Going (i + 1) (set marks (x.number % 32) true) (q && good) (f && new) states
+        → f ≡ (not (get_or marks (x.number % 32) false) && near)
+        → Going (i + 1) (set marks (x.number % 32) true) (good && q) (new && f) states
     unfolding fresh
     packet near q f e near-is q-is f-is =
         let more = one_more words end i h k in
@@ -80,10 +79,10 @@ module _ (acked seq first end : ℕ) (sent words : List ℕ) where
         let after = rest words end (i + 1) in
         let marked = set marks (x.number % 32) true in
         record {
-          all = rw (q-is, near-is) (swap rule good (every (entry_rule acked seq sent) after) ∙ (rw (more, is, ← x-is) at g.all));
+          all = rw (q-is, near-is) (and_assoc good rule (every (entry_rule acked seq sent) after) ∙ (rw (more, is, ← x-is) at g.all));
           fresh_is =
-              rw (f-is, near-is)
-              (swap new-here new (fresh acked seq marked (packet_numbers after)) ∙ (rw (more, is, ← x-is) at g.fresh_is));
+              rw (f-is, near-is, and_comm (free marks x.number) (known acked seq x.number))
+              (and_assoc new new-here (fresh acked seq marked (packet_numbers after)) ∙ (rw (more, is, ← x-is) at g.fresh_is));
           states_is = rw (more, is) at g.states_is;
           long = length-set marks (x.number % 32) true ∙ g.long;
           few = omega arith;
@@ -105,7 +104,8 @@ module _ (acked seq first end : ℕ) (sent words : List ℕ) where
         let length-is = eqb-true p.length x.length (and_right (eqb p.number x.number) (eqb p.length x.length) (and_left same (sized x.length) last)) in
         let rule : true ≡ queued_ok true sent x =
         rw (and_right same (sized x.length) last, eq-eqb x.length p.length (sym length-is)) (either (is_stored p x.number)) in
-        packet true true true e (sym near) rule (sym (and_right t (not (get_or marks (x.number % 32) false)) h))
+        let free-here = and_right t (not (get_or marks (x.number % 32) false)) h in
+        rw (← and-true good, ← and-true new) (packet true true true e (sym near) rule (sym (rw free-here refl)))
 
   pub done : (i : ℕ) (marks : List Bool) (good new : Bool) (states : ℕ) → Going i marks good new states → end ≤ i
       → EntriesPassed acked seq sent (rest words end first) good new states

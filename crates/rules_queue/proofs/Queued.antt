@@ -1,5 +1,5 @@
 -- The queue's rules from what the pass over its entries finds: the rules of one entry, the count of each kind, and the tests in order.
-use Prim.Native.Nat.{ℕ, ◌+◌, ◌-◌, ◌%◌, ◌<◌, ◌≤◌}
+use Prim.Native.Nat.{ℕ, ◌+◌, ◌-◌, ◌%◌, ◌≤◌}
 use native.Mathlib.Omega.{arith}
 use mathlib.Core.Path.{◌≡◌, refl, ap, ◌∙◌}
 use mathlib.Core.List.{List, [], ◌∷◌}
@@ -8,7 +8,7 @@ use mathlib.Core.Bool.{Bool, true, false, cond, ◌&&◌, and_assoc}
 use lib.Dec.{leb, ltb, eqb}
 use lib.ListN.{length, take, drop}
 use lib.Seq.{length-slice}
-use borrow.Author.Tests.{le-leb, lt-leb}
+use borrow.Author.Tests.{le-leb}
 use Rattle.model.specs.Rules.{distinct, every}
 use Rattle.records.specs.declared.Sender.{Sender}
 use Rattle.records.specs.declared.Queue.{Queue}
@@ -49,14 +49,6 @@ kinds (w ∷ ws) = go (entry_of w).state refl (kinds ws)
 -- the whole queue
 
 module _ (q : Queue) (s : Sender) (queue sent : List ℕ) where
-  pub too_many : 128 < q.count → false ≡ ok_queue q s queue sent
-  unfolding ok_queue
-  too_many h = simp (lt-leb q.count 128 h)
-
-  pub too_few : q.count ≤ 128 → q.count < q.left → false ≡ ok_queue q s queue sent
-  unfolding ok_queue
-  too_few h k = simp (le-leb q.count 128 h, lt-leb q.left q.count k)
-
   first_is : (many : ℕ) → many ≡ cond (eqb q.left 0) q.count q.left → q.count - many ≡ first_entry q
   first_is many e = ap (λ (n : ℕ). q.count - n) e ∙ go (eqb q.left 0)
     where

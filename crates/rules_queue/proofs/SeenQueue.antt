@@ -18,7 +18,7 @@ use Rattle.records.specs.declared.Queue.{Queue}
 use Rattle.records_words.specs.Words.{sent_in, is_stored, entry_of}
 use Rattle.records.specs.Seen.{packet_of, seen_outgoing, seen_sender, entry_words, seen_entries, seen_queue, formed_queue}
 use Rattle.rules_queue.specs.Entries.{stored_length, same_length, entries_ok, state_count, packet_numbers, at_rest_ok, to_take_ok, ok_queue}
-use Rattle.rules_packets.proofs.Pieces.{cut_length}
+use Rattle.records.proofs.Cut.{cut_length}
 use Rattle.rules_packets.proofs.SeenPackets.{outgoing_found}
 
 -- the entries of some words

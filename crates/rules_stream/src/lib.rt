@@ -7,7 +7,6 @@ ghost use Rattle.model.specs.Rules.{segments_range, rtt_ranges};
 ghost use Rattle.rules_stream.specs.Ok.{clocks_ok, ok_stream};
 
 use constants::{CLOCK_END, HELD_WORDS, MAX_SEGMENTS, QUEUE_WORDS, RTO_MAX, RTO_MIN, SENT_WORDS};
-use picks::both;
 use records::{Clocks, Stream, Totals};
 use rtt::Rtt;
 use rules_packets::{ok_receiver, ok_sender};
@@ -17,22 +16,22 @@ use rules_queue::ok_queue;
 fn ok_segments(most: u8) -> bool
     ensures { result ≡ segments_range most }
 {
-    both(1 <= most, most <= MAX_SEGMENTS)
+    1 <= most && most <= MAX_SEGMENTS
 }
 
 // "srtt and rttvar are below 2^60, rto is 1,000 ms to 5 × 2^60"
 fn ok_rtt(e: Rtt) -> bool
     ensures { result ≡ rtt_ranges e }
 {
-    let rto = both(RTO_MIN <= e.rto.0, e.rto.0 <= RTO_MAX);
-    both(e.srtt.0 < CLOCK_END, both(e.rttvar.0 < CLOCK_END, rto))
+    let rto = RTO_MIN <= e.rto.0 && e.rto.0 <= RTO_MAX;
+    e.srtt.0 < CLOCK_END && e.rttvar.0 < CLOCK_END && rto
 }
 
 // "neither .. nor the last drive's clock is past the last clock, which is below 2^60"
 fn ok_clocks(k: Clocks) -> bool
     ensures { result ≡ clocks_ok k }
 {
-    both(k.drive.0 <= k.last.0, k.last.0 < CLOCK_END)
+    k.drive.0 <= k.last.0 && k.last.0 < CLOCK_END
 }
 
 // All the rules of the records.
@@ -45,13 +44,14 @@ pub fn ok_stream(
 ) -> bool
     ensures { result ≡ ok_stream s t sent.now held.now queue.now }
 {
+    // What no pass decides comes first, so that fewer values are kept over the loops.
     let segments = ok_segments(s.ids.segments);
     let estimate = ok_rtt(s.timing.rtt);
     let clocks = ok_clocks(s.clocks);
-    if ok_sender(s.sender, t, s.clocks.last, sent) {
-        let receiver = ok_receiver(s.receiver, held);
-        let rest = both(receiver, ok_queue(s.queue, s.sender, queue, sent));
-        return both(segments, both(estimate, both(clocks, rest)));
+    if !segments || !estimate || !clocks || !ok_sender(s.sender, t, s.clocks.last, sent) {
+        return false;
     }
-    false
+    let receiver = ok_receiver(s.receiver, held);
+    let entries = ok_queue(s.queue, s.sender, queue, sent);
+    entries && receiver
 }

@@ -1,25 +1,26 @@
 -- `rules_packets::sender::ok_sender` meets its contract: the tests in order, with what the pass found.
 use native.Mathlib.Omega.{arith}
-use Rattle.rules_packets.proofs.Stored.{below, far, near}
+use mathlib.Core.Path.{sym, ◌∙◌}
+use Rattle.std.proofs.lemmas.Bool.Decides.{nat_tests}
+use Rattle.rules_packets.specs.Packets.{ok_sender}
+use Rattle.rules_packets.proofs.Stored.{broken, near}
 use Rattle.rules_packets.proofs.sender.ok_sender.Goals as goal
 
-pub returns-then-seq-acked : goal.returns-then-seq-acked
-returns-then-seq-acked c = below _ _ _ _ (omega arith)
+pub returns-then-s : goal.returns-then-s
+unfolding ok_sender
+returns-then-s c = grind (arith, nat_tests)
 
-pub returns-then-seq-acked-gt-STORE_SLOTS : goal.returns-then-seq-acked-gt-STORE_SLOTS
-returns-then-seq-acked-gt-STORE_SLOTS c = far _ _ _ _ (omega arith) (omega arith)
+pub returns-then-not-largest : goal.returns-then-not-largest
+unfolding ok_sender
+returns-then-not-largest c = grind (arith, nat_tests)
 
-pub returns : goal.returns
-returns c =
-    let r = c.stored-found.result in
-    rw (
-      c.both-4.ensures,
-      c.both-3.ensures,
-      c.both-2.ensures,
-      c.both.ensures,
-      c.both-window.ensures,
-      c.both-totals.ensures,
-    ) (near _ _ _ _ r.good r.inflight r.packets r.bytes
-    (omega (arith, c.if-seq-acked.false))
-    (omega (arith, c.if-seq-acked-gt-STORE_SLOTS.false, c.if-seq-acked.false))
-    c.stored-found.ensures)
+pub returns-in_default : goal.returns-in_default
+returns-in_default c = broken _ _ _ _ (omega arith) (omega arith) (sym c.in_default.is ∙ c.stored.ensures)
+
+pub returns-then-packets : goal.returns-then-packets
+returns-then-packets c =
+    grind (arith, nat_tests, near c.args.s c.args.t c.args.clock.0 c.args.sent.now c.in-Some.found (omega arith) (omega arith) (sym c.in-Some.is ∙ c.stored.ensures))
+
+pub returns-else-packets : goal.returns-else-packets
+returns-else-packets c =
+    grind (arith, nat_tests, near c.args.s c.args.t c.args.clock.0 c.args.sent.now c.in-Some.found (omega arith) (omega arith) (sym c.in-Some.is ∙ c.stored.ensures))

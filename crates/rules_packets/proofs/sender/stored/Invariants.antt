@@ -1,10 +1,6 @@
-use Prim.Native.Nat.{◌-◌}
 use Rattle.rules_packets.proofs.Stored.{Going}
 use Rattle.rules_packets.proofs.sender.stored.Given as goal
 
 abbrev pub invariant-loop-n : goal.invariant-loop-n
 invariant-loop-n l =
     Going l.acked l.seq l.clock.0 l.sent l.n l.inflight l.packets l.lengths
-
-abbrev pub decreases-loop-n : goal.decreases-loop-n
-decreases-loop-n l = l.seq - l.n

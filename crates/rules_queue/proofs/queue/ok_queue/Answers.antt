@@ -1,29 +1,37 @@
 -- `rules_queue::queue::ok_queue` meets its contract: the tests in order, with what the pass found.
 use native.Mathlib.Omega.{arith}
-use Rattle.rules_queue.proofs.Queued.{too_many, too_few, passed}
+use mathlib.Core.Path.{◌≡◌}
+use mathlib.Core.Bool.{cond}
+use lib.Dec.{eqb}
+use Rattle.std.proofs.lemmas.Bool.Decides.{nat_tests}
+use Rattle.rules_queue.specs.Entries.{ok_queue}
+use Rattle.rules_queue.proofs.Queued.{passed}
 use Rattle.rules_queue.proofs.queue.ok_queue.Goals as goal
 
-pub returns-then-q-word_count : goal.returns-then-q-word_count
-returns-then-q-word_count c = too_many _ _ _ _ (omega arith)
+pub returns-then-q-gt-QUEUE_WORDS : goal.returns-then-q-gt-QUEUE_WORDS
+unfolding ok_queue
+returns-then-q-gt-QUEUE_WORDS c = grind (arith, nat_tests)
 
-pub returns-then-q : goal.returns-then-q
-returns-then-q c = too_few _ _ _ _ (omega arith) (omega arith)
-
-pub returns : goal.returns
-returns c =
-    let r = c.entries-found.result in
-    rw (
-      c.both-2.ensures,
-      c.both.ensures,
-      c.places_ok.ensures,
-      c.pick-kinds.ensures,
-      c.both-to_take.ensures,
-      c.less.ensures,
-      c.both-at_rest.ensures,
+pub returns-then-kinds : goal.returns-then-kinds
+returns-then-kinds c =
+    let q = c.args.q in
+    let r = c.entries-found in
+    let many : c.if-rest.many ≡ cond (eqb q.left 0) q.count q.left = grind (arith, nat_tests) in
+    grind (
+      arith,
+      nat_tests,
+      passed q c.args.s c.args.queue.now c.args.sent.now c.if-rest.many r.result.good r.result.fresh r.result.states
+          c.told-queue (omega arith) (omega arith) many r.ensures,
     )
-    (passed _ _ _ _ c.pick32-many.result r.good r.fresh r.states
-    (omega arith)
-    (omega arith)
-    (omega arith)
-    c.pick32-many.ensures
-    (rw (← c.less-first.ensures) c.entries-found.ensures))
+
+pub returns-else-kinds : goal.returns-else-kinds
+returns-else-kinds c =
+    let q = c.args.q in
+    let r = c.entries-found in
+    let many : c.if-rest.many ≡ cond (eqb q.left 0) q.count q.left = grind (arith, nat_tests) in
+    grind (
+      arith,
+      nat_tests,
+      passed q c.args.s c.args.queue.now c.args.sent.now c.if-rest.many r.result.good r.result.fresh r.result.states
+          c.told-queue (omega arith) (omega arith) many r.ensures,
+    )
