@@ -1,6 +1,7 @@
 -- Queuing a state packet on the records is the model's. Its bytes at the next place and its word at the end of the queue are one more entry
 -- of what is seen (`state_queued`, from the laws of a pushed entry); over a whole stream that is `send_state_packet` (`state_seen`), and with
 -- the ending replaced first it is `terminate` (`terminate_seen`).
+use Rattle.std.specs.Prelude.{Option}
 use Rattle.std.proofs.Common.{◌≡◌, ℕ, ◌+◌, ◌*◌, ◌<◌, ◌≤◌, true, List, length, set, sym, refl, ap, ◌∙◌, append-nil, arith, length-set}
 use Rattle.error.specs.declared.UdxError.{UdxError}
 use Rattle.packet.specs.Header.{header_bytes}
@@ -52,7 +53,7 @@ module _ (q : Queue) (queue : List ℕ) (headers : Bytes) (able : Pushable q (le
       queue_said (pushed_state q) (set queue q.count (entry_word state_entry))
       (formed_state q (pushed_state q) queue (queue_says q queue f) room able.queued state_entry entry_said able.rest able.rest refl refl refl refl able.places)
 
-  pub state_queued : (t : Totals) (error : UdxError) (remote seq ack : ℕ) (r : Queued) (queue' : List ℕ) (headers' : Bytes) → r.queue ≡ pushed_state q → r.totals ≡ counted_state t
+  pub state_queued : (t : Totals) (error : Option UdxError) (remote seq ack : ℕ) (r : Queued) (queue' : List ℕ) (headers' : Bytes) → r.queue ≡ pushed_state q → r.totals ≡ counted_state t
       → queue' ≡ set queue q.count (entry_word state_entry) → headers' ≡ put headers (q.states * 20) (header_bytes (state_header error remote seq ack))
       → StateQueued q t error remote seq ack queue headers r queue' headers'
   state_queued t error remote seq ack r queue' headers' places totals words bytes =
@@ -72,12 +73,12 @@ groups : (e : model.End) {a a' : model.Queue} {b b' : model.Totals} → a ≡ a'
     → model.with_totals b (model.with_queue a e) ≡ model.with_totals b' (model.with_queue a' e)
 groups e p q = cc
 
-header_same : {e e' : UdxError} {remote remote' seq seq' ack ack' : ℕ} → e ≡ e' → remote ≡ remote' → seq ≡ seq' → ack ≡ ack'
+header_same : {e e' : Option UdxError} {remote remote' seq seq' ack ack' : ℕ} → e ≡ e' → remote ≡ remote' → seq ≡ seq' → ack ≡ ack'
     → header_bytes (state_header e remote seq ack) ≡ header_bytes (state_header e' remote' seq' ack')
 header_same p q r s = cc
 
 -- for any stream with these numbers
-pub state_seen : (s : Stream) (t : Totals) (l : Lent) {error : UdxError} {remote seq ack : ℕ} {r : Queued} {queue' : List ℕ} {headers' : Bytes}
+pub state_seen : (s : Stream) (t : Totals) (l : Lent) {error : Option UdxError} {remote seq ack : ℕ} {r : Queued} {queue' : List ℕ} {headers' : Bytes}
     → StateQueued s.queue t error remote seq ack l.queue l.headers r queue' headers' → s.ending.error ≡ error → s.ids.remote ≡ remote → s.sender.seq ≡ seq → s.receiver.ack ≡ ack
     → formed_queue s.queue l.queue ≡ true → seen (with_queue r.queue s) r.totals (with_state queue' headers' l) ≡ send_state_packet (seen s t l)
 unfolding seen
@@ -87,7 +88,7 @@ state_seen s t l x e remote seq ack f =
     groups (seen s t l) (x.seen-queue f ∙ ap (λ (b : Bytes). pushed (model.state b) (seen_queue s.queue l.queue l.headers)) bytes) x.seen-totals
 
 -- with the ending replaced first
-pub terminate_seen : (s : Stream) (t : Totals) (l : Lent) (x : Ending) (why : UdxError) {error : UdxError} {remote seq ack : ℕ} {r : Queued} {queue' : List ℕ} {headers' : Bytes}
+pub terminate_seen : (s : Stream) (t : Totals) (l : Lent) (x : Ending) (why : UdxError) {error : Option UdxError} {remote seq ack : ℕ} {r : Queued} {queue' : List ℕ} {headers' : Bytes}
     → seen_ending x ≡ failed why (seen_ending s.ending)
     → StateQueued s.queue t error remote seq ack l.queue l.headers r queue' headers' → x.error ≡ error → s.ids.remote ≡ remote → s.sender.seq ≡ seq → s.receiver.ack ≡ ack
     → formed_queue s.queue l.queue ≡ true → seen (with_queue r.queue (with_ending x s)) r.totals (with_state queue' headers' l) ≡ terminate why (seen s t l)

@@ -1,5 +1,5 @@
 -- How a stream ends, and a queued state packet on the records: its header, its queue entry, the numbers after it, and the queue then seen.
-use Rattle.std.specs.Prelude.{◌≡◌, ℕ, ◌+◌, ◌%◌, ◌^◌, ◌<◌, true, List, length}
+use Rattle.std.specs.Prelude.{◌≡◌, ℕ, ◌+◌, ◌%◌, ◌^◌, ◌<◌, true, List, length, Option}
 use Rattle.error.specs.declared.UdxError.{UdxError}
 use Rattle.packet.specs.declared.header.Header.{Header}
 use Rattle.packet.specs.Header.{header_bytes}
@@ -20,7 +20,7 @@ abbrev pub seen_ending : Ending → model.Ending
 seen_ending x = record { error = x.error; state = seen_state x.state; ended = x.ended }
 
 -- 01, call 3: "State packets carry END once an error is set."
-abbrev pub state_header : UdxError → (remote seq ack : ℕ) → Header
+abbrev pub state_header : Option UdxError → (remote seq ack : ℕ) → Header
 state_header error remote seq ack = header_of (state_type (is_set error)) remote seq ack
 
 -- a state packet is a bare header; its place in the header store is not in the entry but counted
@@ -50,7 +50,7 @@ pub record Pushable (q : Queue) (store : ℕ) : Type 0 where
   pub places : q.states < 64
 
 -- send_state_packet, on the numbers and on what is seen of the queue, if that is properly laid out
-pub record StateQueued (q : Queue) (t : Totals) (error : UdxError) (remote seq ack : ℕ) (queue : List ℕ) (headers : Bytes) (r : Queued) (queue' : List ℕ) (headers' : Bytes) : Type 0 where
+pub record StateQueued (q : Queue) (t : Totals) (error : Option UdxError) (remote seq ack : ℕ) (queue : List ℕ) (headers : Bytes) (r : Queued) (queue' : List ℕ) (headers' : Bytes) : Type 0 where
   pub places : r.queue ≡ pushed_state q
   pub totals : r.totals ≡ counted_state t
   pub seen-totals : seen_totals r.totals ≡ count_state (seen_totals t)

@@ -35,10 +35,8 @@ pub fn close_local(s: StreamState) -> StreamState
     ensures { seen_state result ≡ close_local (seen_state s) }
 {
     match s {
-        StreamState::Open => StreamState::LocalClosed,
-        StreamState::LocalClosed => StreamState::LocalClosed,
-        StreamState::RemoteClosed => StreamState::BothClosed,
-        StreamState::BothClosed => StreamState::BothClosed,
+        StreamState::Open | StreamState::LocalClosed => StreamState::LocalClosed,
+        StreamState::RemoteClosed | StreamState::BothClosed => StreamState::BothClosed,
     }
 }
 
@@ -47,10 +45,8 @@ pub fn close_remote(s: StreamState) -> StreamState
     ensures { seen_state result ≡ close_remote (seen_state s) }
 {
     match s {
-        StreamState::Open => StreamState::RemoteClosed,
-        StreamState::LocalClosed => StreamState::BothClosed,
-        StreamState::RemoteClosed => StreamState::RemoteClosed,
-        StreamState::BothClosed => StreamState::BothClosed,
+        StreamState::Open | StreamState::RemoteClosed => StreamState::RemoteClosed,
+        StreamState::LocalClosed | StreamState::BothClosed => StreamState::BothClosed,
     }
 }
 
@@ -58,12 +54,10 @@ pub fn close_remote(s: StreamState) -> StreamState
 pub fn terminated(x: Ending, why: UdxError) -> Ending
     ensures { seen_ending result ≡ failed why (seen_ending x) }
 {
-    let before = x.state;
-    let state = close_local(before);
     Ending {
-        error: why,
-        state,
-        ended: x.ended,
+        error: Some(why),
+        state: close_local(x.state),
+        ..x
     }
 }
 
@@ -71,13 +65,9 @@ pub fn terminated(x: Ending, why: UdxError) -> Ending
 pub fn remote_ended(x: Ending) -> Ending
     ensures { seen_ending result ≡ remote_ended (seen_ending x) }
 {
-    let error = x.error;
-    let before = x.state;
-    let state = close_remote(before);
     Ending {
-        error,
-        state,
-        ended: x.ended,
+        state: close_remote(x.state),
+        ..x
     }
 }
 
@@ -88,10 +78,10 @@ fn state_type(failed: bool) -> u8
     if failed { UDX_HEADER_END } else { 0 }
 }
 
-fn state_header(error: UdxError, remote: u32, seq: u32, ack: u32) -> Header
+fn state_header(error: Option<UdxError>, remote: u32, seq: u32, ack: u32) -> Header
     ensures { result ≡ state_header error remote seq ack }
 {
-    create_header(state_type(records::is_set(error)), remote, seq, ack)
+    create_header(state_type(error.is_some()), remote, seq, ack)
 }
 
 fn state_entry() -> Entry
@@ -110,9 +100,8 @@ fn pushed_state(q: Queue) -> Queue
 {
     Queue {
         count: q.count + 1,
-        left: q.left,
         states: q.states + 1,
-        gone: q.gone,
+        ..q
     }
 }
 
@@ -120,12 +109,8 @@ fn counted_state(t: Totals) -> Totals
     ensures { result ≡ counted_state t }
 {
     Totals {
-        tx_packets: std::num::wrapping_add_u64(t.tx_packets, 1),
-        tx_bytes: t.tx_bytes,
-        rx_packets: t.rx_packets,
-        rx_bytes: t.rx_bytes,
-        inflight_packets: t.inflight_packets,
-        inflight_bytes: t.inflight_bytes,
+        tx_packets: t.tx_packets.wrapping_add(1),
+        ..t
     }
 }
 
@@ -133,7 +118,7 @@ fn counted_state(t: Totals) -> Totals
 pub fn send_state_packet(
     q: Queue,
     t: Totals,
-    error: UdxError,
+    error: Option<UdxError>,
     remote: u32,
     seq: u32,
     ack: u32,
@@ -144,15 +129,11 @@ pub fn send_state_packet(
     ensures { StateQueued q t error remote seq ack queue.old headers.old result
         queue.new headers.new }
 {
-    records::expose_length(queue);
     let h = state_header(error, remote, seq, ack);
     records_stores::put_header(headers, q.states, h);
-    let at = q.count as usize;
-    records::put_entry(queue, at, state_entry());
-    let after = pushed_state(q);
-    let totals = counted_state(t);
+    records::put_entry(queue, q.count as usize, state_entry());
     Queued {
-        queue: after,
-        totals,
+        queue: pushed_state(q),
+        totals: counted_state(t),
     }
 }

@@ -7,6 +7,10 @@ use mathlib.Core.Option.{Option, none, some}
 use mathlib.Core.Bool.{Bool, true, false, cond}
 use lib.Dec.{eqb}
 use lib.ListN.{length, set}
+use Rattle.std.specs.Prelude as rust
+use Rattle.std.specs.Prelude.{None, Some}
+use Rattle.std.specs.Option.{option_map_or}
+use Rattle.rtt.specs.declared.nanos.Nanos.{Nanos}
 use Rattle.rtt.specs.declared.estimate.Rtt.{Rtt}
 use Rattle.rtt.specs.Estimate.{InRange, sampled}
 use Rattle.model.specs.Lists.{Bytes, on}
@@ -18,7 +22,7 @@ use Rattle.records.specs.declared.Sender.{Sender}
 use Rattle.records.specs.declared.Stream.{Stream}
 use Rattle.records_words.specs.Words.{sent_in, is_stored}
 use Rattle.records.specs.Cut.{outgoing_slot}
-use Rattle.records.specs.Seen.{Lent, seen, packet_of, seen_sender, seen_totals, seen_outgoing}
+use Rattle.records.specs.Seen.{Lent, seen, seen_time, packet_of, seen_sender, seen_totals, seen_outgoing}
 use Rattle.records.specs.Setters.{with_words}
 use Rattle.records.proofs.Cut.{cut_length}
 use Rattle.records.proofs.SeenOutgoing.{get_outgoing, drop_outgoing}
@@ -44,14 +48,14 @@ same_refl s = record { seq = refl; acked = refl; largest = refl; cwnd = refl }
 module _ (store : Bytes) (i clock : ℕ) (p : Sent) (t : model.Timing) where
   timing-seen : record { rtt = measured_rtt t.rtt p clock; deadline = t.deadline } ≡ measured clock (packet_of store i p) t
   unfolding measured
-  timing-seen = go (eqb p.transmits 1) p.timed
+  timing-seen = go (eqb p.transmits 1) p.sent_at
     where
-      go : (b c : Bool)
-          → record { rtt = cond b (cond c (sampled t.rtt (clock - p.sent_at.0)) t.rtt) t.rtt; deadline = t.deadline }
-          ≡ cond b (on (cond c (some p.sent_at.0) none) t (λ at. record { rtt = sampled t.rtt (clock - at); deadline = t.deadline })) t
-      go true true = refl
-      go true false = refl
-      go false c = refl
+      go : (b : Bool) (o : rust.Option Nanos)
+          → record { rtt = cond b (option_map_or (λ (at : Nanos). sampled t.rtt (clock - at.0)) o t.rtt) t.rtt; deadline = t.deadline }
+          ≡ cond b (on (seen_time o) t (λ at. record { rtt = sampled t.rtt (clock - at); deadline = t.deadline })) t
+      go true None = refl
+      go true (Some at) = refl
+      go false o = refl
 
 module _ (clock n : ℕ) (a : Acks) (sent : List ℕ) (long : length sent ≡ 64) (w : InWindow a.sender n) where
   abbrev slot : Sent

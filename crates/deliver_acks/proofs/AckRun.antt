@@ -2,13 +2,9 @@
 -- over those of its numbers that are in the window (Clipped).
 use Prim.Native.Nat.{ℕ, suc, ◌+◌, ◌-◌, ◌≤◌, ◌<◌, max, min}
 use native.Mathlib.Omega.{arith}
-use mathlib.Core.Path.{◌≡◌, refl, ap, sym, ◌∙◌}
-use mathlib.Core.List.{List}
-use Rattle.packet.specs.declared.sack.Block.TheVariants.{Range, NoMore}
-use Rattle.packet.specs.Blocks.{Span, blocks, blocks_from}
-use Rattle.packet_blocks.specs.declared.Next.{Next}
-use Rattle.packet_blocks.specs.Reader.{read_at}
-use Rattle.packet_blocks.proofs.Reader.{read_first, read_none}
+use mathlib.Core.Path.{◌≡◌, ap, sym, ◌∙◌}
+use mathlib.Core.List.{List, [], ◌∷◌}
+use Rattle.packet.specs.Blocks.{Span, blocks}
 use Rattle.rtt.specs.Estimate.{InRange}
 use Rattle.model.specs.Lists.{Bytes}
 use Rattle.model.specs.Stream as model
@@ -19,9 +15,8 @@ use Rattle.records.specs.Seen.{Lent, seen}
 use Rattle.records.specs.Setters.{with_words}
 use Rattle.records.proofs.SeenOutgoing.{outgoing_length, get_settled, get_unsent}
 use Rattle.deliver_acks.specs.declared.Acks.{Acks}
-use Rattle.deliver_acks.specs.Acked.{InWindow, with_acks, SameNumbers, AcksOne}
-use Rattle.deliver_acks.specs.Sacks.{RunInWindow, AcksRun, AcksBlocks}
-use Rattle.deliver_acks.proofs.AckOne.{same_refl}
+use Rattle.deliver_acks.specs.Acked.{with_acks, SameNumbers, AcksOne}
+use Rattle.deliver_acks.specs.Sacks.{AcksRun, AcksBlocks}
 use Rattle.deliver_acks.proofs.Clipped.{clipped}
 
 abbrev seen_of : Acks → List ℕ → Stream → Lent → model.End
@@ -34,27 +29,15 @@ same_trans p q =
 -- numbers
 
 pub record Running (clock from to : ℕ) (a₀ : Acks) (sent₀ : List ℕ) (a : Acks) (sent : List ℕ) (n : ℕ) : Type 0 where
-  pub on_from : from ≤ n
   pub same : SameNumbers a₀.sender a.sender
   pub range : InRange a.rtt
   pub goes_on : (s : Stream) (l : Lent) → ack_numbers clock (to - n) n (seen_of a sent s l) ≡ ack_numbers clock (to - from) from (seen_of a₀ sent₀ s l)
 
-pub run_starts : (clock from to : ℕ) (a : Acks) (sent : List ℕ) → InRange a.rtt → Running clock from to a sent a sent from
-run_starts clock from to a sent r = record { on_from = omega arith; same = same_refl a.sender; range = r; goes_on = λ s l. refl }
-
 module _ {clock from to : ℕ} {a₀ : Acks} {sent₀ : List ℕ} {a : Acks} {sent : List ℕ} {n : ℕ} (g : Running clock from to a₀ sent₀ a sent n) where
-  pub run_window : RunInWindow a₀.sender from to → n < to → InWindow a.sender n
-  run_window w less =
-      let f = g.on_from in
-      let seq = g.same.seq in
-      let acked = g.same.acked in
-      record { low = omega (arith, w.low); high = omega (arith, w.high); width = omega (arith, w.width) }
-
   pub run_turn : n < to → {r : Acks} {sent' : List ℕ} → AcksOne clock n a sent r sent' → Running clock from to a₀ sent₀ r sent' (n + 1)
   unfolding ack_numbers
   run_turn less x =
       record {
-        on_from = omega (arith, g.on_from);
         same = same_trans g.same x.same;
         range = x.range;
         goes_on = λ s l.
@@ -90,10 +73,6 @@ module _ (clock start end : ℕ) (a : Acks) (sent : List ℕ) where
       clipped clock acked seq (seen_of a sent s l) (get_settled acked seq sent l.outgoing) (get_unsent acked seq sent l.outgoing)
       (outgoing_length acked seq sent l.outgoing) start end
 
-  pub span_window : (from to : ℕ) → from ≡ max start a.sender.remote_acked → to ≡ min end a.sender.seq → a.sender.seq ≤ a.sender.remote_acked + 32
-      → RunInWindow a.sender from to
-  span_window from to f t w = record { low = omega arith; high = omega arith; width = w }
-
   pub span_acked : {from to : ℕ} {r : Acks} {sent' : List ℕ} → from ≡ max start a.sender.remote_acked → to ≡ min end a.sender.seq
       → AcksRun clock from to a sent r sent' → AcksRun clock start end a sent r sent'
   span_acked f t x =
@@ -101,41 +80,31 @@ module _ (clock start end : ℕ) (a : Acks) (sent : List ℕ) where
 
 -- blocks
 
-pub record Sacking (clock : ℕ) (payload : Bytes) (a₀ : Acks) (sent₀ : List ℕ) (a : Acks) (sent : List ℕ) (at : ℕ) : Type 0 where
+pub record Sacking (clock : ℕ) (payload : Bytes) (a₀ : Acks) (sent₀ : List ℕ) (a : Acks) (sent : List ℕ) (left : List Span) : Type 0 where
   pub same : SameNumbers a₀.sender a.sender
   pub range : InRange a.rtt
   pub goes_on : (s : Stream) (l : Lent)
-      → ack_blocks clock (blocks_from payload at) (seen_of a sent s l) ≡ ack_blocks clock (blocks payload) (seen_of a₀ sent₀ s l)
+      → ack_blocks clock left (seen_of a sent s l) ≡ ack_blocks clock (blocks payload) (seen_of a₀ sent₀ s l)
 
-pub sack_starts : (clock : ℕ) (payload : Bytes) (a : Acks) (sent : List ℕ) → InRange a.rtt → Sacking clock payload a sent a sent 0
-sack_starts clock payload a sent r = record { same = same_refl a.sender; range = r; goes_on = λ s l. refl }
-
-module _ {clock : ℕ} {payload : Bytes} {a₀ : Acks} {sent₀ : List ℕ} {a : Acks} {sent : List ℕ} {at : ℕ} (g : Sacking clock payload a₀ sent₀ a sent at) where
-  pub sack_width : a₀.sender.seq ≤ a₀.sender.remote_acked + 32 → a.sender.seq ≤ a.sender.remote_acked + 32
-  sack_width w =
-      let seq = g.same.seq in
-      let acked = g.same.acked in
-      omega arith
-
-  pub sack_turn : {n : Next} {start end : ℕ} → n ≡ read_at payload at → n.block ≡ Range start end
-      → {r : Acks} {sent' : List ℕ} → AcksRun clock start end a sent r sent' → Sacking clock payload a₀ sent₀ r sent' n.at
+module _ {clock : ℕ} {payload : Bytes} {a₀ : Acks} {sent₀ : List ℕ} {a : Acks} {sent : List ℕ} {left : List Span} (g : Sacking clock payload a₀ sent₀ a sent left) where
+  pub sack_turn : {b : Span} {rest : List Span} → left ≡ b ∷ rest
+      → {r : Acks} {sent' : List ℕ} → AcksRun clock b.start b.end a sent r sent' → Sacking clock payload a₀ sent₀ r sent' rest
   unfolding ack_blocks
-  sack_turn {n} read is x =
+  sack_turn {b} {rest} first x =
       record {
         same = same_trans g.same x.same;
         range = x.range;
         goes_on = λ s l.
-            ap (ack_blocks clock (blocks_from payload n.at)) (x.seen_after s l)
-            ∙ ap (λ (bs : List Span). ack_blocks clock bs (seen_of a sent s l)) (sym (read_first payload at read is))
+            ap (ack_blocks clock rest) (x.seen_after s l)
+            ∙ ap (λ (bs : List Span). ack_blocks clock bs (seen_of a sent s l)) (sym first)
             ∙ g.goes_on s l;
       }
 
-  pub sack_end : {n : Next} → n ≡ read_at payload at → n.block ≡ NoMore → AcksBlocks clock payload a₀ sent₀ a sent
+  pub sack_end : left ≡ [] → AcksBlocks clock payload a₀ sent₀ a sent
   unfolding ack_blocks
-  sack_end read is =
+  sack_end none =
       record {
-        seen_after = λ s l.
-            ap (λ (bs : List Span). ack_blocks clock bs (seen_of a sent s l)) (sym (read_none payload at read is)) ∙ g.goes_on s l;
+        seen_after = λ s l. ap (λ (bs : List Span). ack_blocks clock bs (seen_of a sent s l)) (sym none) ∙ g.goes_on s l;
         same = g.same;
         range = g.range;
       }

@@ -1,5 +1,6 @@
 -- Acking one packet on the records: the numbers afterwards, and that what is seen agrees with the model.
 use Rattle.std.specs.Prelude.{ℕ, ◌+◌, ◌-◌, ◌^◌, ◌≤◌, ◌<◌, ◌≡◌, List, cond, eqb}
+use Rattle.std.specs.Option.{option_map_or}
 use Rattle.rtt.specs.declared.estimate.Rtt.{Rtt}
 use Rattle.rtt.specs.Estimate.{InRange, sampled}
 use Rattle.model.specs.Receiving.{ack_number}
@@ -24,7 +25,7 @@ left_sender s p =
 
 -- 01: "With a time sent and exactly one transmit it gives a sample, the call's clock less the time sent"
 abbrev pub measured_rtt : Rtt → Sent → ℕ → Rtt
-measured_rtt e p clock = cond (eqb p.transmits 1) (cond p.timed (sampled e (clock - p.sent_at.0)) e) e
+measured_rtt e p clock = cond (eqb p.transmits 1) (option_map_or (λ t. sampled e (clock - t.0)) p.sent_at e) e
 
 pub record Measures (e : Rtt) (p : Sent) (clock : ℕ) (r : Rtt) : Type 0 where
   pub estimate : r ≡ measured_rtt e p clock

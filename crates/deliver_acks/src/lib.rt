@@ -6,9 +6,8 @@ ghost use Rattle.rtt.specs.Estimate.{InRange};
 ghost use Rattle.deliver_acks.specs.Acked.{left_sender, measured_rtt, acked_totals, Measures, Timed, InWindow, AcksOne};
 ghost use Rattle.deliver_acks.specs.Sacks.{RunInWindow, AcksRun, AcksBlocks};
 
-use constants::SENT_WORDS;
-use packet::Block;
-use picks::{larger, less, less64, smaller};
+use constants::{SENT_WORDS, UDX_HEADER_SIZE};
+use packet_blocks::BlockReader;
 use records::{Sender, Sent, Totals};
 use rtt::{Nanos, Rtt};
 
@@ -24,15 +23,9 @@ pub struct Acks {
 fn left_sender(s: Sender, p: Sent) -> Sender
     ensures { result ≡ left_sender s p }
 {
-    let rest = less(s.inflight, p.length);
+    let rest = s.inflight.saturating_sub(p.length);
     let inflight = if p.waiting { s.inflight } else { rest };
-    Sender {
-        seq: s.seq,
-        remote_acked: s.remote_acked,
-        largest_ack: s.largest_ack,
-        inflight,
-        cwnd: s.cwnd,
-    }
+    Sender { inflight, ..s }
 }
 
 // "With a time sent and exactly one transmit it gives a sample, the call's clock less the time sent"
@@ -40,10 +33,10 @@ fn measured(e: Rtt, p: Sent, clock: Nanos) -> Rtt
     requires { InRange e × (clock.0 < 2 ^ 60) }
     ensures { Measures e p clock.0 result }
 {
-    if p.transmits == 1 {
-        if p.timed {
-            return e.sample(Nanos(less64(clock.0, p.sent_at.0)));
-        }
+    if p.transmits == 1
+        && let Some(sent_at) = p.sent_at
+    {
+        return e.sample(Nanos(clock.0.saturating_sub(sent_at.0)));
     }
     e
 }
@@ -52,14 +45,11 @@ fn measured(e: Rtt, p: Sent, clock: Nanos) -> Rtt
 fn acked_totals(t: Totals, p: Sent) -> Totals
     ensures { result ≡ acked_totals t p }
 {
-    let payload = less(p.length, 20) as u64;
+    let payload = p.length.saturating_sub(UDX_HEADER_SIZE as u32) as u64;
     Totals {
-        tx_packets: t.tx_packets,
-        tx_bytes: t.tx_bytes,
-        rx_packets: t.rx_packets,
-        rx_bytes: t.rx_bytes,
-        inflight_packets: less64(t.inflight_packets, 1),
-        inflight_bytes: less64(t.inflight_bytes, payload),
+        inflight_packets: t.inflight_packets.saturating_sub(1),
+        inflight_bytes: t.inflight_bytes.saturating_sub(payload),
+        ..t
     }
 }
 
@@ -68,34 +58,27 @@ pub fn handle_remote_ack(a: Acks, clock: Nanos, sent: &mut [u64; SENT_WORDS], n:
     requires { Timed a clock.0 × InWindow a.sender n }
     ensures { AcksOne clock.0 n a sent.old result sent.new }
 {
-    records::expose_length(sent);
     let p = records::get_sent(sent, n);
     if records::is_stored(p, n) {
-        let sender = left_sender(a.sender, p);
-        let rtt = measured(a.rtt, p, clock);
-        let totals = acked_totals(a.totals, p);
         records::clear_sent(sent, n);
         return Acks {
-            sender,
-            rtt,
-            totals,
+            sender: left_sender(a.sender, p),
+            rtt: measured(a.rtt, p, clock),
+            totals: acked_totals(a.totals, p),
         };
     }
     a
 }
 
 // Acks the numbers from `from` to below `to`, ascending.
-fn ack_numbers(a: Acks, clock: Nanos, sent: &mut [u64; SENT_WORDS], from: u32, to: u32) -> Acks
+fn ack_numbers(mut a: Acks, clock: Nanos, sent: &mut [u64; SENT_WORDS], from: u32, to: u32) -> Acks
     requires { Timed a clock.0 × RunInWindow a.sender from to }
     ensures { AcksRun clock.0 from to a sent.old result sent.new }
 {
-    let mut b = a;
-    let mut n = from;
-    while n < to {
-        b = handle_remote_ack(b, clock, sent, n);
-        n += 1;
+    for n in from..to {
+        a = handle_remote_ack(a, clock, sent, n);
     }
-    b
+    a
 }
 
 // Acks the numbers of a block, end excluded. Only numbers from remote_acked to below seq can be stored, so a block takes at most 32
@@ -104,14 +87,14 @@ fn ack_block(a: Acks, clock: Nanos, sent: &mut [u64; SENT_WORDS], start: u32, en
     requires { Timed a clock.0 × (a.sender.seq ≤ a.sender.remote_acked + 32) }
     ensures { AcksRun clock.0 start end a sent.old result sent.new }
 {
-    let from = larger(start, a.sender.remote_acked);
-    let to = smaller(end, a.sender.seq);
+    let from = start.max(a.sender.remote_acked);
+    let to = end.min(a.sender.seq);
     ack_numbers(a, clock, sent, from, to)
 }
 
 // Acks every block of a payload.
 pub fn handle_incoming_sacks(
-    a: Acks,
+    mut a: Acks,
     clock: Nanos,
     sent: &mut [u64; SENT_WORDS],
     payload: &[u8],
@@ -119,17 +102,8 @@ pub fn handle_incoming_sacks(
     requires { Timed a clock.0 × (a.sender.seq ≤ a.sender.remote_acked + 32) }
     ensures { AcksBlocks clock.0 payload.now a sent.old result sent.new }
 {
-    let mut b = a;
-    let mut at: usize = 0;
-    loop {
-        let next = packet_blocks::read_from(payload, at);
-        let block = next.block;
-        match block {
-            Block::Range { start, end } => {
-                b = ack_block(b, clock, sent, start, end);
-                at = next.at;
-            }
-            Block::NoMore => return b,
-        }
+    for block in BlockReader::new(payload) {
+        a = ack_block(a, clock, sent, block.start, block.end);
     }
+    a
 }

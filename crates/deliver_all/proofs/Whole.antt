@@ -1,44 +1,31 @@
 -- The parts of a delivery in sequence, then the largest ack and the window, are the model's `handle_incoming`.
-use Prim.Native.Nat.{ℕ, ◌+◌, ◌≤◌, ◌<◌}
-use native.Mathlib.Omega.{arith}
-use mathlib.Core.Path.{◌≡◌, refl, ap, sym, subst, ◌∙◌}
+use Prim.Native.Nat.{ℕ}
+use mathlib.Core.Path.{◌≡◌, ap, sym, subst, ◌∙◌}
 use mathlib.Core.List.{List}
 use mathlib.Core.Bool.{true}
-use lib.ListN.{length}
 use Rattle.packet.specs.declared.header.Header.{Header}
 use Rattle.model.specs.Lists.{Bytes}
-use Rattle.model.specs.Stream as model
 use Rattle.model.specs.Receiving.{count_received, on_end, on_data, on_ack, handle_incoming}
 use Rattle.records.specs.declared.Queue.{Queue}
-use Rattle.records.specs.declared.Receiver.{Receiver}
 use Rattle.records.specs.declared.Stream.{Stream}
 use Rattle.records.specs.declared.Totals.{Totals}
 use Rattle.records.specs.Seen.{seen, formed_queue}
 use Rattle.records.specs.Setters.{with_words}
-use Rattle.close_state.specs.State.{Pushable, with_state}
+use Rattle.close_state.specs.State.{with_state}
 use Rattle.records.specs.Laid.{LaidReceiver}
-use Rattle.deliver_data.specs.Absorbing.{Accepted}
-use Rattle.deliver_parts.specs.declared.Delivered.{Delivered}
+use Rattle.records.specs.declared.StreamAndTotals.{StreamAndTotals}
 use Rattle.deliver_notes.specs.Numbers.{counted_received, clocked_stream, acked_sender}
-use Rattle.deliver_parts.specs.Steps.{with_sender_and_timing, Sacked, Pushed, Ended, TakesData, TookData}
+use Rattle.deliver_parts.specs.Steps.{with_sender_and_timing, Sacked, Pushed, Ended, TookData}
 use Rattle.deliver_all.specs.Handle.{Began, CanDeliver, with_delivered, Handled}
-
--- there is room for one more state packet
-pub pushed_able : {q : Queue} {queue : List ℕ} {q' : Queue} {queue' : List ℕ} {headers' : Bytes} → Pushed q queue q' queue' headers' → q.left ≡ 0 → q.count ≤ 126 → q.states ≤ 62
-    → Pushable q' (length headers')
-pushed_able p rest queued places =
-    let count = p.count in
-    let states = p.states in
-    record { whole = p.whole; rest = p.left ∙ rest; queued = omega arith; places = omega arith }
 
 -- everything before DATA
 
-module _ (s : Stream) (t : Totals) (clock : ℕ) {h : Header} {payload : Bytes} {sent : List ℕ} {a : Delivered} {sent' : List ℕ}
+module _ (s : Stream) (t : Totals) (clock : ℕ) {h : Header} {payload : Bytes} {sent : List ℕ} {a : StreamAndTotals} {sent' : List ℕ}
     (x : Sacked (clocked_stream s clock) (counted_received t) clock h payload sent a sent') where
   pub queue_same : a.stream.queue ≡ s.queue
   queue_same = ap (λ (z : Stream). z.queue) x.others
 
-  pub begins : {queue : List ℕ} {headers : Bytes} {r : Delivered} {queue' : List ℕ} {headers' : Bytes} → Ended a.stream a.totals h queue headers r queue' headers'
+  pub begins : {queue : List ℕ} {headers : Bytes} {r : StreamAndTotals} {queue' : List ℕ} {headers' : Bytes} → Ended a.stream a.totals h queue headers r queue' headers'
       → Began s t clock h payload sent queue headers r sent' queue' headers'
   unfolding seen count_received
   begins {queue} {headers} {r} {queue'} {headers'} y =
@@ -53,15 +40,9 @@ module _ (s : Stream) (t : Totals) (clock : ℕ) {h : Header} {payload : Bytes} 
 -- DATA and what follows it
 
 module _ {s : Stream} {t : Totals} {clock : ℕ} {h : Header} {payload : Bytes} {sent queue : List ℕ} {incoming headers : Bytes}
-    (d : CanDeliver s clock h queue incoming headers payload) {b : Delivered} {sent' queue' : List ℕ} {headers' : Bytes}
+    (d : CanDeliver s clock h queue incoming headers payload) {b : StreamAndTotals} {sent' queue' : List ℕ} {headers' : Bytes}
     (x : Began s t clock h payload sent queue headers b sent' queue' headers') where
-  pub data_able : Pushable b.stream.queue (length headers')
-  data_able = pushed_able x.pushed d.rest d.queued d.places
-
-  pub data_takes : TakesData b.stream h incoming payload
-  data_takes is = subst (λ (r : Receiver). Accepted r incoming h.seq payload) (sym x.receiver) (d.takes is)
-
-  pub handles : {held : List ℕ} {e : Delivered} {held' queue'' : List ℕ} {incoming' headers'' : Bytes}
+  pub handles : {held : List ℕ} {e : StreamAndTotals} {held' queue'' : List ℕ} {incoming' headers'' : Bytes}
       → TookData b.stream b.totals h payload held queue' incoming headers' e held' queue'' incoming' headers''
       → Handled s t clock h payload sent held queue incoming headers
       (record { stream = with_sender_and_timing (acked_sender e.stream.sender h.ack) e.stream.timing e.stream; totals = e.totals }) sent' held' queue'' incoming' headers''

@@ -1,5 +1,5 @@
 -- A whole delivery on the records: its precondition, and that what is seen agrees with the model.
-use Rattle.std.specs.Prelude.{ℕ, ◌≤◌, ◌<◌, ◌^◌, ◌+◌, ◌≡◌, List, true, length}
+use Rattle.std.specs.Prelude.{ℕ, ◌≤◌, ◌≡◌, List, true, length}
 use Rattle.packet.specs.declared.header.Header.{Header}
 use Rattle.model.specs.Lists.{Bytes}
 use Rattle.model.specs.Stream as model
@@ -10,7 +10,7 @@ use Rattle.records.specs.Cut.{incoming_slot}
 use Rattle.records.specs.Seen.{Lent, seen, formed_queue}
 use Rattle.records.specs.Beside.{Stay, held_size}
 use Rattle.records.specs.Laid.{LaidReceiver}
-use Rattle.deliver_parts.specs.declared.Delivered.{Delivered}
+use Rattle.records.specs.declared.StreamAndTotals.{StreamAndTotals}
 use Rattle.deliver_parts.specs.Steps.{Measured, Pushed, TakesData}
 
 -- everything before DATA
@@ -23,7 +23,7 @@ with_begun sent queue headers l =
 abbrev pub begun : ℕ → Header → Bytes → model.End → model.End
 begun clock h payload e = on_end h (on_sack clock h payload (model.with_totals (count_received e.totals) (model.with_clocks (at_clock clock e.clocks) e)))
 
-pub record Began (s : Stream) (t : Totals) (clock : ℕ) (h : Header) (payload : Bytes) (sent queue : List ℕ) (headers : Bytes) (r : Delivered) (sent' queue' : List ℕ)
+pub record Began (s : Stream) (t : Totals) (clock : ℕ) (h : Header) (payload : Bytes) (sent queue : List ℕ) (headers : Bytes) (r : StreamAndTotals) (sent' queue' : List ℕ)
     (headers' : Bytes) : Type 0 where
   pub seen_after : formed_queue s.queue queue ≡ true → (l : Lent)
       → seen r.stream r.totals (with_begun sent' queue' headers' l) ≡ begun clock h payload (seen s t (with_begun sent queue headers l))
@@ -45,7 +45,7 @@ with_delivered sent held queue incoming headers l =
     record { sent = sent; held = held; queue = queue; outgoing = l.outgoing; incoming = incoming; headers = headers }
 
 -- handle_incoming
-pub record Handled (s : Stream) (t : Totals) (clock : ℕ) (h : Header) (payload : Bytes) (sent held queue : List ℕ) (incoming headers : Bytes) (r : Delivered)
+pub record Handled (s : Stream) (t : Totals) (clock : ℕ) (h : Header) (payload : Bytes) (sent held queue : List ℕ) (incoming headers : Bytes) (r : StreamAndTotals)
     (sent' held' queue' : List ℕ) (incoming' headers' : Bytes) : Type 0 where
   pub seen_after : (l : Lent)
       → seen r.stream r.totals (with_delivered sent' held' queue' incoming' headers' l)

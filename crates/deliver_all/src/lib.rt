@@ -8,11 +8,12 @@ ghost use Rattle.deliver_all.specs.Handle.{Began, CanDeliver, Handled};
 
 use constants::{HELD_WORDS, QUEUE_WORDS, SENT_WORDS};
 use deliver_notes::{clocked, counted_received, on_ack};
-pub use deliver_parts::Delivered;
 use deliver_parts::{on_data, on_end, on_sack};
 use packet::Header;
-use records::{Stream, Totals};
+use records::{Stream, StreamAndTotals, Totals};
 use rtt::Nanos;
+
+// Each part is lent only the words and stores that it uses: lent a struct of all, it would have to promise the others unchanged.
 
 // Everything before DATA.
 fn before_data(
@@ -24,7 +25,7 @@ fn before_data(
     queue: &mut [u64; QUEUE_WORDS],
     headers: &mut [u8],
     payload: &[u8],
-) -> Delivered
+) -> StreamAndTotals
     requires { Measured s clock.0 × Pushable s.queue (length headers.old) }
     ensures { Began s t clock.0 h payload.now sent.old queue.old
         headers.old result sent.new queue.new headers.new }
@@ -32,9 +33,7 @@ fn before_data(
     let counted = counted_received(t);
     let stream = clocked(s, clock);
     let a = on_sack(stream, counted, clock, h, sent, payload);
-    let after = a.stream;
-    let totals = a.totals;
-    on_end(after, totals, h, queue, headers)
+    on_end(a.stream, a.totals, h, queue, headers)
 }
 
 pub fn handle_incoming(
@@ -48,20 +47,19 @@ pub fn handle_incoming(
     incoming: &mut [u8],
     headers: &mut [u8],
     payload: &[u8],
-) -> Delivered
+) -> StreamAndTotals
     requires { CanDeliver s clock.0 h queue.old incoming.old headers.old payload.now }
     ensures { Handled s t clock.0 h payload.now sent.old held.old
         queue.old incoming.old headers.old result sent.new held.new
         queue.new incoming.new headers.new }
 {
     let b = before_data(s, t, clock, h, sent, queue, headers, payload);
-    let began = b.stream;
-    let counted = b.totals;
-    let d = on_data(began, counted, h, held, queue, incoming, headers, payload);
-    let mut stream = d.stream;
-    let before = stream.sender;
-    let sender = on_ack(before, h.ack);
-    stream.sender = sender;
-    let totals = d.totals;
-    Delivered { stream, totals }
+    let d = on_data(
+        b.stream, b.totals, h, held, queue, incoming, headers, payload,
+    );
+    let stream = Stream {
+        sender: on_ack(d.stream.sender, h.ack),
+        ..d.stream
+    };
+    StreamAndTotals { stream, ..d }
 }

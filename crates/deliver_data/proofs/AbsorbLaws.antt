@@ -35,28 +35,17 @@ use Rattle.deliver_data.specs.Absorbing.{Accepted, Cleared, Inserted, Advanced, 
 -- the words of the numbers from top to below m are cleared
 pub record Clearing (words₀ : List ℕ) (top m : ℕ) (words : List ℕ) : Type 0 where
   pub long : length words ≡ 32
-  pub from : top ≤ m
   pub seen : (read_cursor : ℕ) (store : Bytes) → m ≤ read_cursor + ceiling
       → seen_incoming read_cursor m words store ≡ seen_incoming read_cursor top words₀ store
-
-pub clear_starts : (words : List ℕ) (top : ℕ) → length words ≡ 32 → Clearing words top top words
-clear_starts words top long = record { long = long; from = omega arith; seen = λ read_cursor store h. refl }
 
 module _ {words₀ : List ℕ} {top m : ℕ} {words : List ℕ} (g : Clearing words₀ top m words) where
   pub clear_turn : {words' : List ℕ} → words' ≡ set words (m % 32) 0 → Clearing words₀ top (m + 1) words'
   clear_turn e =
       record {
         long = ap length e ∙ length-set words (m % 32) 0 ∙ g.long;
-        from = let l = g.from in omega arith;
         seen = λ read_cursor store h.
             rw (add-one, e) (clear_one read_cursor m words store g.long (omega arith)) ∙ g.seen read_cursor store (omega arith);
       }
-
-  pub clear_ends : (n : ℕ) → m ≤ max top n → n ≤ m → Cleared words₀ top n words
-  clear_ends n l u =
-      let from = g.from in
-      let e : max top n ≡ m = omega arith in
-      record { seen = λ read_cursor store h. rw e (g.seen read_cursor store (omega arith)) }
 
 -- holding a packet
 
@@ -145,60 +134,51 @@ module _ (r : model.Receiver) where
   unfolding advance
   advance_goes k e = rw e refl
 
--- how many steps the model takes
-abbrev steps : Receiver → ℕ
-steps r = (r.read_cursor + ceiling) - r.ack
+-- the receiver with ack at n, and how many steps the model takes from there
+abbrev acked_to : Receiver → ℕ → Receiver
+acked_to r n = record r { ack = n }
 
--- so far ack has moved over held numbers only
-pub record Advancing (r : Receiver) (words : List ℕ) (s : Receiver) : Type 0 where
-  pub laid : LaidReceiver s
-  pub unread : s.read_cursor ≤ s.ack
-  pub cursor : s.read_cursor ≡ r.read_cursor
-  pub top : s.top ≡ r.top
-  pub seen : (store : Bytes) → advance (steps s) (seen_receiver s words store) ≡ advance (steps r) (seen_receiver r words store)
+abbrev steps : Receiver → ℕ → ℕ
+steps r n = (r.read_cursor + ceiling) - n
 
-pub advance_starts : (r : Receiver) (words : List ℕ) → LaidReceiver r → r.read_cursor ≤ r.ack → Advancing r words r
-advance_starts r words l u = record { laid = l; unread = u; cursor = refl; top = refl; seen = λ store. refl }
+-- the numbers from ack to below n are held
+pub record Advancing (r : Receiver) (words : List ℕ) (n : ℕ) : Type 0 where
+  pub within : n ≤ max r.ack r.top
+  pub seen : (store : Bytes) → advance (steps r n) (seen_receiver (acked_to r n) words store) ≡ advance (steps r r.ack) (seen_receiver r words store)
 
--- ack plus one
-abbrev one_more : Receiver → Receiver
-one_more s = record { ack = s.ack + 1; read_cursor = s.read_cursor; top = s.top }
-
-module _ {r : Receiver} {words : List ℕ} {s : Receiver} (g : Advancing r words s) where
-  stops : ((store : Bytes) → get (seen_receiver s words store).incoming s.ack ≡ none) → Advanced r words s
+module _ {r : Receiver} {words : List ℕ} {n : ℕ} (g : Advancing r words n) where
+  stops : ((store : Bytes) → get (seen_receiver r words store).incoming n ≡ none) → Advanced r words (acked_to r n)
   stops e =
       record {
-        seen = λ store. sym (advance_stops (seen_receiver s words store) (steps s) (e store)) ∙ g.seen store;
-        cursor = g.cursor;
-        top = g.top;
+        seen = λ store. sym (advance_stops (seen_receiver (acked_to r n) words store) (steps r n) (e store)) ∙ g.seen store;
+        cursor = refl;
+        top = refl;
       }
 
-  pub advance_at_top : s.top ≤ s.ack → Advanced r words s
-  advance_at_top l = stops (λ store. get_past s.read_cursor s.top words store s.ack l)
+  pub advance_at_top : r.top ≤ n → {to : ℕ} → to ≡ max r.ack r.top → r.ack ≤ n → Advanced r words (acked_to r to)
+  advance_at_top l e from =
+      let w = g.within in
+      let at : n ≡ max r.ack r.top = omega arith in
+      rw (e, ← at) (stops (λ store. get_past r.read_cursor r.top words store n l))
 
-  module _ (below : s.ack < s.top) {p : Held} (is : p ≡ held_in words (s.ack % 32)) where
-    entry : (store : Bytes)
-        → get (seen_receiver s words store).incoming s.ack ≡ cond (is_held p s.ack) (some (held_payload store (s.ack % ceiling) p)) none
-    entry store = get_incoming s.read_cursor s.top words store s.ack g.unread below ∙ rw is refl
+  module _ (laid : LaidReceiver r) (unread : r.read_cursor ≤ n) (below : n < r.top) {p : Held} (is : p ≡ held_in words (n % 32)) where
+    entry : (store : Bytes) → get (seen_receiver r words store).incoming n ≡ cond (is_held p n) (some (held_payload store (n % ceiling) p)) none
+    entry store = get_incoming r.read_cursor r.top words store n unread below ∙ rw is refl
 
-    pub advance_at_gap : is_held p s.ack ≡ false → Advanced r words s
+    pub advance_at_gap : is_held p n ≡ false → Advanced r words (acked_to r n)
     advance_at_gap e = stops (λ store. entry store ∙ rw e refl)
 
-    pub advance_turn : is_held p s.ack ≡ true → Advancing r words (one_more s)
+    pub advance_turn : is_held p n ≡ true → Advancing r words (n + 1)
     advance_turn e =
-        let l = g.laid in
-        let u = g.unread in
-        let k = (s.read_cursor + ceiling) - suc s.ack in
-        let one : steps s ≡ suc k = omega arith in
-        let found : (store : Bytes) → get (seen_receiver s words store).incoming s.ack ≡ some (held_payload store (s.ack % ceiling) p) =
+        let w = laid.width in
+        let k = (r.read_cursor + ceiling) - suc n in
+        let one : steps r n ≡ suc k = omega arith in
+        let found : (store : Bytes) → get (seen_receiver r words store).incoming n ≡ some (held_payload store (n % ceiling) p) =
         λ store. entry store ∙ rw e refl in
         record {
-          laid = record { from = l.from; width = l.width };
-          unread = omega arith;
-          cursor = g.cursor;
-          top = g.top;
+          within = omega arith;
           seen = λ store.
-              rw add-one (sym (ap (λ (j : ℕ). advance j (seen_receiver s words store)) one ∙ advance_goes (seen_receiver s words store) k (found store)))
+              rw add-one (sym (ap (λ (j : ℕ). advance j (seen_receiver (acked_to r n) words store)) one ∙ advance_goes (seen_receiver (acked_to r n) words store) k (found store)))
               ∙ g.seen store;
         }
 

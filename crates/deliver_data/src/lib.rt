@@ -7,26 +7,15 @@ ghost use Rattle.records.specs.Laid.{LaidReceiver};
 ghost use Rattle.deliver_data.specs.Absorbing.{Accepted, Cleared, Inserted, Advanced, Absorbed};
 
 use constants::HELD_WORDS;
-use records::{Held, Receiver, expose_length};
+use records::{Held, Receiver};
 
 // Clears the words of the numbers from top to below n: once top is past them, a stale word would count as a packet.
 fn clear_gap(held: &mut [u64; HELD_WORDS], top: u32, n: u32)
     ensures { Cleared held.old top n held.new }
 {
-    expose_length(held);
-    let mut m = top;
-    while m < n {
+    for m in top..n {
         records::clear_held(held, m);
-        m += 1;
     }
-}
-
-// The top that also covers n.
-fn top_with(top: u32, n: u32) -> u32
-    requires { n < 4_294_967_295 }
-    ensures { result ≡ max top (n + 1) }
-{
-    if n < top { top } else { n + 1 }
 }
 
 // Holds a payload under number n. A repeat replaces what was held under n, and is read from its start.
@@ -41,39 +30,35 @@ fn insert(
     ensures { Inserted r held.old incoming.old n payload.now result
         held.new incoming.new }
 {
-    let past = payload.len() as u32 + 1;
     let p = Held {
         number: n,
-        past,
+        past: payload.len() as u32 + 1,
         offset: 0,
     };
-    let top = top_with(r.top, n);
     clear_gap(held, r.top, n);
-    expose_length(held);
     records::put_held(held, p);
     records_stores::put_payload(incoming, n, payload);
     Receiver {
-        ack: r.ack,
-        read_cursor: r.read_cursor,
-        top,
+        top: r.top.max(n + 1),
+        ..r
     }
 }
 
-// Moves ack past all that is held in order: to the first number not held, at most to top.
+// Moves ack past all that is held in order: to the first number not held, at most to top. An ack past top stays.
 fn in_order(r: Receiver, held: &[u64; HELD_WORDS]) -> Receiver
     requires { LaidReceiver r × (r.read_cursor ≤ r.ack) }
     ensures { Advanced r held.now result }
 {
-    let mut s = r;
-    while s.ack < s.top {
-        let p = records::get_held(held, s.ack);
-        if records::is_held(p, s.ack) {
-            s.ack += 1;
-        } else {
-            return s;
+    for n in r.ack..r.top {
+        let p = records::get_held(held, n);
+        if !records::is_held(p, n) {
+            return Receiver { ack: n, ..r };
         }
     }
-    s
+    Receiver {
+        ack: r.ack.max(r.top),
+        ..r
+    }
 }
 
 // DATA numbered n (in handle_incoming). A number below ack was delivered before and may already be read, so it is not held again.

@@ -5,7 +5,6 @@ ghost use Rattle.std.specs.Prelude.{◌≡◌, if◌then◌else◌, nat_lt};
 ghost use Rattle.rtt.specs.Window.{grown};
 ghost use Rattle.deliver_notes.specs.Numbers.{counted_received, counted_data, clocked_stream, acked_sender};
 
-use picks::larger;
 use records::{Clocks, Sender, Stream, Totals};
 use rtt::Nanos;
 
@@ -14,12 +13,8 @@ pub fn counted_received(t: Totals) -> Totals
     ensures { result ≡ counted_received t }
 {
     Totals {
-        tx_packets: t.tx_packets,
-        tx_bytes: t.tx_bytes,
-        rx_packets: std::num::wrapping_add_u64(t.rx_packets, 1),
-        rx_bytes: t.rx_bytes,
-        inflight_packets: t.inflight_packets,
-        inflight_bytes: t.inflight_bytes,
+        rx_packets: t.rx_packets.wrapping_add(1),
+        ..t
     }
 }
 
@@ -27,14 +22,9 @@ pub fn counted_received(t: Totals) -> Totals
 pub fn counted_data(t: Totals, payload: usize) -> Totals
     ensures { result ≡ counted_data t payload }
 {
-    let n = payload as u64;
     Totals {
-        tx_packets: t.tx_packets,
-        tx_bytes: t.tx_bytes,
-        rx_packets: t.rx_packets,
-        rx_bytes: std::num::wrapping_add_u64(t.rx_bytes, n),
-        inflight_packets: t.inflight_packets,
-        inflight_bytes: t.inflight_bytes,
+        rx_bytes: t.rx_bytes.wrapping_add(payload as u64),
+        ..t
     }
 }
 
@@ -42,12 +32,13 @@ pub fn counted_data(t: Totals, payload: usize) -> Totals
 pub fn clocked(s: Stream, clock: Nanos) -> Stream
     ensures { result ≡ clocked_stream s clock.0 }
 {
-    let before = s.clocks;
-    let drive = before.drive;
-    let mut stream = s;
-    let clocks = Clocks { last: clock, drive };
-    stream.clocks = clocks;
-    stream
+    Stream {
+        clocks: Clocks {
+            last: clock,
+            ..s.clocks
+        },
+        ..s
+    }
 }
 
 // "If the header's ack exceeds remote acked, the window grows"
@@ -65,10 +56,8 @@ pub fn on_ack(s: Sender, ack: u32) -> Sender
     ensures { result ≡ acked_sender s ack }
 {
     Sender {
-        seq: s.seq,
-        remote_acked: s.remote_acked,
-        largest_ack: larger(s.largest_ack, ack),
-        inflight: s.inflight,
+        largest_ack: s.largest_ack.max(ack),
         cwnd: window(s.cwnd, s.remote_acked, ack),
+        ..s
     }
 }

@@ -1,11 +1,12 @@
 -- Each part of a delivery on the records agrees with the model's on what is seen: SACK blocks by the law of their run, END by that of
 -- `terminate`, DATA by those of holding DATA and of a state packet. A part whose type bit is not set changes nothing.
-use Prim.Native.Nat.{ℕ, ◌+◌, ◌≤◌}
+use Prim.Native.Nat.{ℕ}
 use native.Mathlib.Omega.{arith}
-use mathlib.Core.Path.{◌≡◌, refl, ap, ap₂, sym, ◌∙◌}
+use mathlib.Core.Path.{◌≡◌, refl, ap, ap₂, ◌∙◌}
 use mathlib.Core.List.{List}
-use mathlib.Core.Bool.{true, false, cond}
+use mathlib.Core.Bool.{true, false}
 use lib.ListN.{length}
+use Rattle.std.specs.Prelude.{Option}
 use Rattle.error.specs.declared.UdxError.{UdxError}
 use Rattle.error.specs.declared.UdxError.TheVariants as error
 use Rattle.packet.specs.declared.header.Header.{Header}
@@ -32,12 +33,12 @@ use Rattle.deliver_parts.specs.Steps.{with_sender_and_timing, with_receiver, Sac
 
 -- SACK blocks
 
-module _ (s : Stream) (t : Totals) (clock : ℕ) (h : Header) (payload : Bytes) (sent : List ℕ) where
-  -- the numbers before the blocks
-  abbrev pub acks_of : Acks
-  acks_of = record { sender = s.sender; rtt = s.timing.rtt; totals = t }
+-- the numbers before the blocks
+abbrev pub acks_of : Stream → Totals → Acks
+acks_of s t = record { sender = s.sender; rtt = s.timing.rtt; totals = t }
 
-  pub sacked : has_type 4 h.typ ≡ true → {a : Acks} {sent' : List ℕ} → AcksBlocks clock payload acks_of sent a sent'
+module _ {s : Stream} {t : Totals} {clock : ℕ} {h : Header} {payload : Bytes} {sent : List ℕ} where
+  pub sacked : has_type 4 h.typ ≡ true → {a : Acks} {sent' : List ℕ} → AcksBlocks clock payload (acks_of s t) sent a sent'
       → Sacked s t clock h payload sent
       (record { stream = with_sender_and_timing a.sender (record { rtt = a.rtt; deadline = s.timing.deadline }) s; totals = a.totals }) sent'
   unfolding on_sack
@@ -54,7 +55,7 @@ module _ (s : Stream) (t : Totals) (clock : ℕ) (h : Header) (payload : Bytes) 
 
 -- one more state packet
 
-pub pushed_one : {q : Queue} {t : Totals} {error : UdxError} {remote seq ack : ℕ} {queue : List ℕ} {headers : Bytes} {r : Queued} {queue' : List ℕ} {headers' : Bytes}
+pub pushed_one : {q : Queue} {t : Totals} {error : Option UdxError} {remote seq ack : ℕ} {queue : List ℕ} {headers : Bytes} {r : Queued} {queue' : List ℕ} {headers' : Bytes}
     → StateQueued q t error remote seq ack queue headers r queue' headers' → Pushed q queue r.queue queue' headers'
 pushed_one x =
     let count = ap (λ (q : Queue). q.count) x.places in
@@ -72,14 +73,14 @@ pushed_none q queue headers whole = record { left = refl; count = omega arith; s
 
 -- END
 
-module _ (s : Stream) (t : Totals) (h : Header) (queue : List ℕ) (headers : Bytes) where
-  pub ended : has_type 2 h.typ ≡ true → (remote ending : Ending) {k : Queued} {queue' : List ℕ} {headers' : Bytes}
+module _ {s : Stream} {t : Totals} {h : Header} {queue : List ℕ} {headers : Bytes} where
+  pub ended : has_type 2 h.typ ≡ true → (remote : Ending) {ending : Ending} {k : Queued} {queue' : List ℕ} {headers' : Bytes}
       → seen_ending remote ≡ remote_ended (seen_ending s.ending)
       → seen_ending ending ≡ failed error.UnexpectedEof (seen_ending remote)
       → StateQueued s.queue t ending.error s.ids.remote s.sender.seq s.receiver.ack queue headers k queue' headers'
       → Ended s t h queue headers (record { stream = with_queue k.queue (with_ending ending s); totals = k.totals }) queue' headers'
   unfolding on_end seen
-  ended is remote ending far near x =
+  ended is remote {ending} far near x =
       record {
         seen_after = λ f l.
             terminate_seen (with_ending remote s) t (with_state queue headers l) ending error.UnexpectedEof near x refl refl refl refl f
@@ -95,7 +96,7 @@ module _ (s : Stream) (t : Totals) (h : Header) (queue : List ℕ) (headers : By
 
 -- DATA
 
-module _ (s : Stream) (t : Totals) (h : Header) (payload : Bytes) (held queue : List ℕ) (incoming headers : Bytes) where
+module _ {s : Stream} {t : Totals} {h : Header} {payload : Bytes} {held queue : List ℕ} {incoming headers : Bytes} where
   pub took : has_type 1 h.typ ≡ true → {r : Receiver} {counted : Totals} {k : Queued} {held' queue' : List ℕ} {incoming' headers' : Bytes}
       → Absorbed s.receiver held incoming h.seq payload r held' incoming'
       → counted ≡ counted_data t (length payload)

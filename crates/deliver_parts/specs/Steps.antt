@@ -19,7 +19,7 @@ use Rattle.close_state.specs.State.{with_state, with_ending}
 use Rattle.deliver_acks.specs.Acked.{SameNumbers}
 use Rattle.records.specs.Laid.{LaidReceiver}
 use Rattle.deliver_data.specs.Absorbing.{Accepted}
-use Rattle.deliver_parts.specs.declared.Delivered.{Delivered}
+use Rattle.records.specs.declared.StreamAndTotals.{StreamAndTotals}
 
 -- the stream with another sender and timing
 abbrev pub with_sender_and_timing : Sender → Timing → Stream → Stream
@@ -54,7 +54,7 @@ pub record Measured (s : Stream) (clock : ℕ) : Type 0 where
   pub early : clock < 2 ^ 60
   pub width : s.sender.seq ≤ s.sender.remote_acked + 32
 
-pub record Sacked (s : Stream) (t : Totals) (clock : ℕ) (h : Header) (payload : Bytes) (sent : List ℕ) (r : Delivered) (sent' : List ℕ) : Type 0 where
+pub record Sacked (s : Stream) (t : Totals) (clock : ℕ) (h : Header) (payload : Bytes) (sent : List ℕ) (r : StreamAndTotals) (sent' : List ℕ) : Type 0 where
   pub seen_after : (l : Lent) → seen r.stream r.totals (with_words sent' l) ≡ on_sack clock h payload (seen s t (with_words sent l))
   pub same : SameNumbers s.sender r.stream.sender
   pub others : r.stream ≡ with_sender_and_timing r.stream.sender r.stream.timing s
@@ -69,7 +69,7 @@ pub record Pushed (q : Queue) (queue : List ℕ) (q' : Queue) (queue' : List ℕ
   pub formed : formed_queue q queue ≡ true → formed_queue q' queue' ≡ true
   pub whole : length headers' ≡ 1_280
 
-pub record Ended (s : Stream) (t : Totals) (h : Header) (queue : List ℕ) (headers : Bytes) (r : Delivered) (queue' : List ℕ) (headers' : Bytes) : Type 0 where
+pub record Ended (s : Stream) (t : Totals) (h : Header) (queue : List ℕ) (headers : Bytes) (r : StreamAndTotals) (queue' : List ℕ) (headers' : Bytes) : Type 0 where
   pub seen_after : formed_queue s.queue queue ≡ true → (l : Lent)
       → seen r.stream r.totals (with_state queue' headers' l) ≡ on_end h (seen s t (with_state queue headers l))
   pub others : r.stream ≡ with_queue r.stream.queue (with_ending r.stream.ending s)
@@ -86,7 +86,7 @@ abbrev pub with_data : (held queue : List ℕ) → (incoming headers : Bytes) �
 with_data held queue incoming headers l =
     record { sent = l.sent; held = held; queue = queue; outgoing = l.outgoing; incoming = incoming; headers = headers }
 
-pub record TookData (s : Stream) (t : Totals) (h : Header) (payload : Bytes) (held queue : List ℕ) (incoming headers : Bytes) (r : Delivered) (held' queue' : List ℕ)
+pub record TookData (s : Stream) (t : Totals) (h : Header) (payload : Bytes) (held queue : List ℕ) (incoming headers : Bytes) (r : StreamAndTotals) (held' queue' : List ℕ)
     (incoming' headers' : Bytes) : Type 0 where
   pub seen_after : formed_queue s.queue queue ≡ true → (l : Lent)
       → seen r.stream r.totals (with_data held' queue' incoming' headers' l) ≡ on_data h payload (seen s t (with_data held queue incoming headers l))

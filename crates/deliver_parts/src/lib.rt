@@ -10,15 +10,8 @@ use deliver_acks::Acks;
 use deliver_notes::counted_data;
 use error::UdxError;
 use packet::Header;
-use records::{Stream, Timing, Totals};
+use records::{Stream, StreamAndTotals, Timing, Totals};
 use rtt::Nanos;
-
-// The stream and totals after one part of a delivery.
-#[derive(Clone, Copy)]
-pub struct Delivered {
-    pub stream: Stream,
-    pub totals: Totals,
-}
 
 // Acks the numbers of the SACK blocks.
 pub fn on_sack(
@@ -28,34 +21,34 @@ pub fn on_sack(
     h: Header,
     sent: &mut [u64; SENT_WORDS],
     payload: &[u8],
-) -> Delivered
+) -> StreamAndTotals
     requires { Measured s clock.0 }
     ensures { Sacked s t clock.0 h payload.now sent.old result sent.new }
 {
-    let mut stream = s;
     if h.is_sack() {
-        let sender = s.sender;
-        let timing = s.timing;
-        let rtt = timing.rtt;
-        let deadline = timing.deadline;
         let before = Acks {
-            sender,
-            rtt,
+            sender: s.sender,
+            rtt: s.timing.rtt,
             totals: t,
         };
         let a = deliver_acks::handle_incoming_sacks(before, clock, sent, payload);
-        let after = a.sender;
-        let estimate = a.rtt;
-        let totals = a.totals;
-        stream.sender = after;
-        let timed = Timing {
-            rtt: estimate,
-            deadline,
+        let stream = Stream {
+            sender: a.sender,
+            timing: Timing {
+                rtt: a.rtt,
+                ..s.timing
+            },
+            ..s
         };
-        stream.timing = timed;
-        return Delivered { stream, totals };
+        return StreamAndTotals {
+            stream,
+            totals: a.totals,
+        };
     }
-    Delivered { stream, totals: t }
+    StreamAndTotals {
+        stream: s,
+        totals: t,
+    }
 }
 
 // "END closes both sides, sets UnexpectedEof and queues a state packet."
@@ -65,34 +58,37 @@ pub fn on_end(
     h: Header,
     queue: &mut [u64; QUEUE_WORDS],
     headers: &mut [u8],
-) -> Delivered
+) -> StreamAndTotals
     requires { Pushable s.queue (length headers.old) }
     ensures { Ended s t h queue.old headers.old result queue.new headers.new }
 {
-    let mut stream = s;
     if h.is_end() {
-        let before = s.ending;
-        let remote = close_state::remote_ended(before);
+        let remote = close_state::remote_ended(s.ending);
         let ending = close_state::terminated(remote, UdxError::UnexpectedEof);
-        let error = ending.error;
-        let q = s.queue;
         let k = close_state::send_state_packet(
-            q,
+            s.queue,
             t,
-            error,
+            ending.error,
             s.ids.remote,
             s.sender.seq,
             s.receiver.ack,
             queue,
             headers,
         );
-        let after = k.queue;
-        let totals = k.totals;
-        stream.queue = after;
-        stream.ending = ending;
-        return Delivered { stream, totals };
+        let stream = Stream {
+            queue: k.queue,
+            ending,
+            ..s
+        };
+        return StreamAndTotals {
+            stream,
+            totals: k.totals,
+        };
     }
-    Delivered { stream, totals: t }
+    StreamAndTotals {
+        stream: s,
+        totals: t,
+    }
 }
 
 // "DATA is stored when seq is at least ack (a repeat replaces), ack moves past all held in order, and a state packet is queued."
@@ -105,35 +101,36 @@ pub fn on_data(
     incoming: &mut [u8],
     headers: &mut [u8],
     payload: &[u8],
-) -> Delivered
+) -> StreamAndTotals
     requires { Pushable s.queue (length headers.old) × TakesData s h incoming.old payload.now }
     ensures { TookData s t h payload.now held.old queue.old
         incoming.old headers.old result held.new queue.new incoming.new
         headers.new }
 {
-    let mut stream = s;
     if h.is_data() {
-        let before = s.receiver;
-        let receiver = deliver_data::absorb(before, held, incoming, h.seq, payload);
-        let counted = counted_data(t, payload.len());
-        let ending = s.ending;
-        let error = ending.error;
-        let q = s.queue;
+        let receiver = deliver_data::absorb(s.receiver, held, incoming, h.seq, payload);
         let k = close_state::send_state_packet(
-            q,
-            counted,
-            error,
+            s.queue,
+            counted_data(t, payload.len()),
+            s.ending.error,
             s.ids.remote,
             s.sender.seq,
             receiver.ack,
             queue,
             headers,
         );
-        let after = k.queue;
-        let totals = k.totals;
-        stream.receiver = receiver;
-        stream.queue = after;
-        return Delivered { stream, totals };
+        let stream = Stream {
+            receiver,
+            queue: k.queue,
+            ..s
+        };
+        return StreamAndTotals {
+            stream,
+            totals: k.totals,
+        };
     }
-    Delivered { stream, totals: t }
+    StreamAndTotals {
+        stream: s,
+        totals: t,
+    }
 }

@@ -1,6 +1,6 @@
 -- The parts of a drive in sequence are the model's `poll_drive`. The queue has room: the queue at rest and one more state packet leave a
 -- place for every number.
-use Prim.Native.Nat.{ℕ, ◌+◌, ◌-◌, ◌≤◌, ◌<◌}
+use Prim.Native.Nat.{ℕ, ◌+◌, ◌-◌, ◌≤◌}
 use native.Mathlib.Omega.{arith}
 use mathlib.Core.Path.{◌≡◌, refl, ap, sym, subst, ◌∙◌}
 use mathlib.Core.List.{List}
@@ -9,43 +9,26 @@ use lib.ListN.{length}
 use Rattle.model.specs.Lists.{Bytes}
 use Rattle.model.specs.Driving as drive
 use Rattle.records.specs.declared.Queue.{Queue}
-use Rattle.records.specs.declared.Receiver.{Receiver}
 use Rattle.records.specs.declared.Stream.{Stream}
 use Rattle.records.specs.declared.Totals.{Totals}
-use Rattle.records.specs.Seen.{Lent, seen, formed_queue}
+use Rattle.records.specs.Seen.{seen, formed_queue}
 use Rattle.records.proofs.FormedQueue.{queue_said, queue_says}
-use Rattle.close_state.specs.State.{Pushable}
 use Rattle.drive_flush.specs.declared.Flushed.{Flushed}
 use Rattle.drive_flush.specs.Flushing as waiting
 use Rattle.drive_drain.specs.Draining.{LeavesToTake}
-use Rattle.drive_settle.specs.declared.Polled.{Polled}
-use Rattle.drive_settle.specs.Settling.{Acked, Settled}
-use Rattle.drive_timeouts.specs.Timeouts.{Checkable, with_polled, Checked}
+use Rattle.records.specs.declared.StreamAndTotals.{StreamAndTotals}
+use Rattle.drive_settle.specs.Settling.{Settled}
+use Rattle.drive_timeouts.specs.Timeouts.{with_polled, Checked}
 use Rattle.drive_all.specs.Poll.{driven_at, CanDrive, Begun, Flushable, PollFlushes, Polls}
 
 -- settling and timeouts
 
 module _ {s : Stream} {clock : ℕ} {sent queue : List ℕ} {headers : Bytes} (d : CanDrive s clock sent queue headers) where
-  pub driven_acked : Acked (driven_at clock s) clock
-  driven_acked =
-      let a = d.acked in
-      record { range = a.range; early = a.early; largest = a.largest; width = a.width }
-
-  module _ {t : Totals} {a : Polled} {sent' : List ℕ} (x : Settled (driven_at clock s) t clock sent a sent') where
+  module _ {t : Totals} {a : StreamAndTotals} {sent' : List ℕ} (x : Settled (driven_at clock s) t clock sent a sent') where
     queue_same : a.stream.queue ≡ s.queue
     queue_same = ap (λ (z : Stream). z.queue) x.others
 
-    able : Pushable s.queue (length headers)
-    able = record { whole = d.whole; rest = d.rest; queued = omega (arith, d.queued); places = omega (arith, d.places) }
-
-    pub settled_checkable : Checkable a.stream clock sent' headers
-    settled_checkable =
-        record {
-          losable = record { rto = x.range.most; early = d.acked.early; stored = x.stored d.stored };
-          able = subst (λ (q : Queue). Pushable q (length headers)) (sym queue_same) able;
-        }
-
-    module _ {r : Polled} {sent'' queue' : List ℕ} {headers' : Bytes} (y : Checked a.stream a.totals clock sent' queue headers r sent'' queue' headers') where
+    module _ {r : StreamAndTotals} {sent'' queue' : List ℕ} {headers' : Bytes} (y : Checked a.stream a.totals clock sent' queue headers r sent'' queue' headers') where
       still_formed : formed_queue a.stream.queue queue ≡ true
       still_formed = subst (λ (q : Queue). formed_queue q queue ≡ true) (sym queue_same) d.formed
 
@@ -93,7 +76,7 @@ flushes {s} {sent} {queue} {f} {sent'} {queue'} w x long y =
 
 -- the whole
 
-pub polls : {s : Stream} {t : Totals} {clock : ℕ} {sent queue : List ℕ} {headers : Bytes} {b : Polled} {sent' queue' : List ℕ} {headers' : Bytes}
+pub polls : {s : Stream} {t : Totals} {clock : ℕ} {sent queue : List ℕ} {headers : Bytes} {b : StreamAndTotals} {sent' queue' : List ℕ} {headers' : Bytes}
     → Begun s t clock sent queue headers b sent' queue' headers' → {r : Stream} {sent'' queue'' : List ℕ} → PollFlushes b.stream sent' queue' r sent'' queue''
     → Polls s t clock sent queue headers (record { stream = r; totals = b.totals }) sent'' queue'' headers'
 unfolding drive.poll_drive

@@ -1,5 +1,5 @@
 -- A whole drive on the records: its precondition, and that what is seen agrees with the model.
-use Rattle.std.specs.Prelude.{ℕ, ◌+◌, ◌-◌, ◌^◌, ◌≤◌, ◌<◌, ◌≡◌, List, true, length}
+use Rattle.std.specs.Prelude.{ℕ, ◌+◌, ◌-◌, ◌≤◌, ◌≡◌, List, true, length}
 use Rattle.rtt.specs.Estimate.{nanos}
 use Rattle.model.specs.Lists.{Bytes}
 use Rattle.model.specs.Driving as drive
@@ -8,7 +8,7 @@ use Rattle.records.specs.declared.Totals.{Totals}
 use Rattle.records.specs.Seen.{Lent, seen, formed_queue, QueueFormed}
 use Rattle.drive_lost.specs.Packets.{AllSentBounds}
 use Rattle.drive_flush.specs.Flushing.{with_queued}
-use Rattle.drive_settle.specs.declared.Polled.{Polled}
+use Rattle.records.specs.declared.StreamAndTotals.{StreamAndTotals}
 use Rattle.drive_settle.specs.Settling.{Acked}
 use Rattle.drive_timeouts.specs.Timeouts.{with_polled}
 
@@ -44,7 +44,7 @@ pub record Flushable (s : Stream) (sent queue : List ℕ) : Type 0 where
   pub formed : QueueFormed s.queue queue
 
 -- settled and checked for timeouts
-pub record Begun (s : Stream) (t : Totals) (clock : ℕ) (sent queue : List ℕ) (headers : Bytes) (r : Polled) (sent' queue' : List ℕ) (headers' : Bytes) : Type 0 where
+pub record Begun (s : Stream) (t : Totals) (clock : ℕ) (sent queue : List ℕ) (headers : Bytes) (r : StreamAndTotals) (sent' queue' : List ℕ) (headers' : Bytes) : Type 0 where
   pub seen_after : (l : Lent)
       → seen r.stream r.totals (with_polled sent' queue' headers' l)
       ≡ drive.check_timeouts clock (drive.settle clock (drive.drive_clock clock (seen s t (with_polled sent queue headers l))))
@@ -59,7 +59,7 @@ pub record PollFlushes (s : Stream) (sent queue : List ℕ) (r : Stream) (sent' 
   pub formed : QueueFormed r.queue queue'
 
 -- poll_drive
-pub record Polls (s : Stream) (t : Totals) (clock : ℕ) (sent queue : List ℕ) (headers : Bytes) (r : Polled) (sent' queue' : List ℕ) (headers' : Bytes) : Type 0 where
+pub record Polls (s : Stream) (t : Totals) (clock : ℕ) (sent queue : List ℕ) (headers : Bytes) (r : StreamAndTotals) (sent' queue' : List ℕ) (headers' : Bytes) : Type 0 where
   pub seen_after : (l : Lent)
       → seen r.stream r.totals (with_polled sent' queue' headers' l) ≡ drive.poll_drive clock (seen s t (with_polled sent queue headers l))
   pub receiver : r.stream.receiver ≡ s.receiver

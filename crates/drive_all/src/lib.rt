@@ -4,5 +4,4 @@
 
 mod poll;
 
-pub use drive_settle::Polled;
 pub use poll::{clocked, poll_drive};

@@ -4,11 +4,12 @@ use Prim.Native.Nat.{ℕ, suc, ◌+◌, ◌-◌, ◌%◌, ◌≤◌, ◌<◌}
 use native.Mathlib.Numerals.{add-one}
 use native.Mathlib.Omega.{arith}
 use mathlib.Core.Path.{◌≡◌, refl, ap, sym, ◌∙◌}
-use mathlib.Core.Logic.{◌≢◌}
+use mathlib.Core.Logic.{◌≢◌, ◌⊎◌, inl, inr}
 use mathlib.Core.List.{List, [], ◌∷◌}
 use mathlib.Core.Option.{Option, none, some}
 use mathlib.Core.Bool.{Bool, true, false, cond, ◌&&◌, not}
 use lib.ListN.{length, take, length-take}
+use Rattle.std.specs.Prelude as rust
 use Rattle.error.specs.declared.UdxError.{UdxError}
 use Rattle.model.specs.Lists.{Bytes, is_empty, on}
 use Rattle.model.specs.Slots.{Slots, ceiling}
@@ -38,9 +39,6 @@ from s sent outgoing n = any_stored (s.seq - n) n (store_seen s sent outgoing)
 pub record Searching (s : Sender) (sent : List ℕ) (n : ℕ) : Type 0 where
   pub low : s.remote_acked ≤ n
   pub same : (outgoing : Bytes) → from s sent outgoing n ≡ from s sent outgoing s.remote_acked
-
-pub starts : (s : Sender) (sent : List ℕ) → Searching s sent s.remote_acked
-starts s sent = record { low = omega arith; same = λ outgoing. refl }
 
 module _ {s : Sender} {sent : List ℕ} {n : ℕ} (g : Searching s sent n) where
   pub none_stored : s.seq ≤ n → AnyStored s sent false
@@ -102,7 +100,7 @@ module _ (q : Queue) (words : List ℕ) (headers : Bytes) (rest : q.left ≡ 0) 
       let some : 0 < length (take q.count words) = rw length-take (omega arith) in
       not_empty (seen_entries headers q.gone (entry_words q words)) (omega arith)
 
-module _ (error : UdxError) (q : Queue) (s : Sender) (sent : List ℕ) where
+module _ (error : rust.Option UdxError) (q : Queue) (s : Sender) (sent : List ℕ) where
   -- the model's test of the three parts
   abbrev parts : (set empty any : Bool) → Bool
   parts set empty any = set && (empty && not any)
@@ -114,13 +112,10 @@ module _ (error : UdxError) (q : Queue) (s : Sender) (sent : List ℕ) where
   unfolding drive.drained seen
   tested r h = record { test = λ st t l a b c d long. rw (a, b, c, d) (h l.queue l.outgoing l.headers long) }
 
-  -- no error is set
-  pub runs : is_set error ≡ false → Drains error q s sent false
-  runs e = tested false (λ words outgoing headers long. rw e refl)
-
-  -- something is queued
-  pub queued : q.left ≡ 0 → q.count ≢ 0 → Drains error q s sent false
-  queued rest e = tested false (λ words outgoing headers long. rw (queue_full q words headers rest e long) (neither (is_set error)))
+  -- no error is set, or something is queued
+  pub not_drained : q.left ≡ 0 → (is_set error ≡ true × (q.count ≢ 0)) ⊎ (is_set error ≡ false) → (r : Bool) → r ≡ false → Drains error q s sent r
+  not_drained rest (inl x) r e = tested r (λ words outgoing headers long. rw (e, queue_full q words headers rest x.1 long) (neither (is_set error)))
+  not_drained rest (inr x) r e = tested r (λ words outgoing headers long. rw (e, x) refl)
 
   -- nothing is queued
   pub stored_or_not : q.left ≡ 0 → is_set error ≡ true → q.count ≡ 0 → (any : Bool) → AnyStored s sent any → Drains error q s sent (not any)

@@ -1,6 +1,6 @@
 -- How a drive starts and finishes on the records: whether anything is stored, whether a stream with an error is drained, and the queue that
 -- the drive leaves.
-use Rattle.std.specs.Prelude.{ℕ, ◌-◌, ◌≤◌, ◌≡◌, List, Bool, length}
+use Rattle.std.specs.Prelude.{ℕ, ◌-◌, ◌≤◌, ◌≡◌, List, Bool, length, Option}
 use Rattle.error.specs.declared.UdxError.{UdxError}
 use Rattle.model.specs.Lists.{Bytes}
 use Rattle.model.specs.Driving as drive
@@ -17,7 +17,7 @@ pub record AnyStored (s : Sender) (sent : List ℕ) (r : Bool) : Type 0 where
       → r ≡ drive.any_stored (s.seq - s.remote_acked) s.remote_acked (seen_outgoing s.remote_acked s.seq sent outgoing)
 
 -- closed_and_drained. 01, call 4: "an error is set and queue and outgoing store are empty", for any stream with these numbers and words
-pub record Drains (error : UdxError) (q : Queue) (s : Sender) (sent : List ℕ) (r : Bool) : Type 0 where
+pub record Drains (error : Option UdxError) (q : Queue) (s : Sender) (sent : List ℕ) (r : Bool) : Type 0 where
   pub test : (st : Stream) (t : Totals) (l : Lent) → st.ending.error ≡ error → st.queue ≡ q → st.sender ≡ s → l.sent ≡ sent → length l.queue ≡ 128
       → r ≡ drive.drained (seen st t l)
 

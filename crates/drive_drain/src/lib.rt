@@ -12,29 +12,21 @@ use records::{Queue, Sender};
 pub fn any_stored(s: Sender, sent: &[u64; SENT_WORDS]) -> bool
     ensures { AnyStored s sent.now result }
 {
-    let mut n = s.remote_acked;
-    while n < s.seq {
-        let p = records::get_sent(sent, n);
-        if records::is_stored(p, n) {
+    // A loop, since no proof was found for `any` over the numbers.
+    for n in s.remote_acked..s.seq {
+        if records::is_stored(records::get_sent(sent, n), n) {
             return true;
         }
-        n += 1;
     }
     false
 }
 
 // Whether an error is set and queue and outgoing store are empty. Nothing is left to take, so the queue has `count` entries.
-pub fn drained(error: UdxError, q: Queue, s: Sender, sent: &[u64; SENT_WORDS]) -> bool
+pub fn drained(error: Option<UdxError>, q: Queue, s: Sender, sent: &[u64; SENT_WORDS]) -> bool
     requires { q.left ≡ 0 }
     ensures { Drains error q s sent.now result }
 {
-    if records::is_set(error) {
-        if q.count == 0 {
-            let stored = any_stored(s, sent);
-            return !stored;
-        }
-    }
-    false
+    error.is_some() && q.count == 0 && !any_stored(s, sent)
 }
 
 // Leaves everything queued to take.
@@ -42,10 +34,5 @@ pub fn left_to_take(q: Queue) -> Queue
     requires { q.left ≡ 0 }
     ensures { LeavesToTake q result }
 {
-    Queue {
-        count: q.count,
-        left: q.count,
-        states: q.states,
-        gone: q.gone,
-    }
+    Queue { left: q.count, ..q }
 }

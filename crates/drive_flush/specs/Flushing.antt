@@ -16,7 +16,7 @@ use Rattle.drive_lost.specs.Packets.{AllSentBounds, with_inflight}
 
 abbrev pub flushed_packet : Sent → Sent
 flushed_packet p =
-    record { number = p.number; length = p.length; transmits = p.transmits; waiting = false; timed = p.timed; sent_at = p.sent_at }
+    record { number = p.number; length = p.length; transmits = p.transmits; waiting = false; sent_at = p.sent_at }
 
 -- 01, 'Records', send queue: "a stored packet's number and length"
 abbrev pub flushed_entry : Sent → Entry

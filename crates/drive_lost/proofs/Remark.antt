@@ -7,7 +7,7 @@ use mathlib.Core.Logic.{◌≢◌}
 use mathlib.Core.List.{List}
 use mathlib.Core.Bool.{Bool, true, false}
 use lib.Dec.{eqb}
-use borrow.Author.Tests.{eqb-true, eqb-false, not-false}
+use borrow.Author.Tests.{eqb-true, eqb-false}
 use lib.ListN.{length, set, length-set}
 use lib.Seq.{get_or-set_same, get_or-set_other}
 use Rattle.model.specs.Lists.{Bytes}
@@ -24,10 +24,6 @@ use Rattle.drive_lost.specs.Packets.{SentBounds, AllSentBounds}
 
 -- a packet read from a word fits a word again
 
-pub untimed : (w time : ℕ) → (sent_of w time).timed ≡ false → (sent_of w time).sent_at.0 ≡ 0
-unfolding sent_of
-untimed w time e = let z = eqb-true time 0 (not-false (eqb time 0) e) in omega arith
-
 pub transmits_fit : (w time : ℕ) → (sent_of w time).transmits < 32
 unfolding sent_of
 transmits_fit w time = omega arith
@@ -35,7 +31,7 @@ transmits_fit w time = omega arith
 -- the packet with other marks
 abbrev pub marking : (waiting : Bool) (transmits : ℕ) → Sent → Sent
 marking waiting transmits p =
-    record { number = p.number; length = p.length; transmits = transmits; waiting = waiting; timed = p.timed; sent_at = p.sent_at }
+    record { number = p.number; length = p.length; transmits = transmits; waiting = waiting; sent_at = p.sent_at }
 
 -- the words of one slot, and those of the others
 
@@ -76,10 +72,10 @@ module _ (s : Sender) (sent : List ℕ) (long : length sent ≡ 64) (stored : Al
 
   back : sent_of (sent_word new) (sent_time new) ≡ new
   back =
-      let a = within.short in
-      let b = within.early in
+      let w = within in
+      let a = w.short in
       let number = stored_number old n here in
-      sent_back new (omega arith) few (rw number fits) (omega arith) (untimed _ _)
+      sent_back new (omega arith) few (rw number fits) (λ t e. let c = w.early t e in omega arith)
 
   pub remark_seen : (outgoing : Bytes) (f : model.Marks → model.Marks) → marks_of new ≡ f (marks_of old)
       → seen_outgoing s.remote_acked s.seq (with_sent sent n new) outgoing

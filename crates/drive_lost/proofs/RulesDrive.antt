@@ -2,29 +2,26 @@
 use Prim.Native.Nat.{ℕ, ◌%◌, ◌^◌, ◌≤◌, ◌<◌}
 use native.Mathlib.Omega.{arith}
 use mathlib.Core.Path.{◌≡◌, refl, ◌∙◌, ap}
-use mathlib.Core.Option.{some, none}
-use mathlib.Core.Bool.{Bool, true, false, cond}
+use mathlib.Core.Option.{some}
+use mathlib.Core.Bool.{true}
+use Rattle.std.specs.Prelude as rust
+use Rattle.std.specs.Option.{ForSome}
+use Rattle.rtt.specs.declared.nanos.Nanos.{Nanos}
 use Rattle.model.specs.Slots.{ceiling, get}
 use Rattle.model.specs.Rules.{rules}
 use Rattle.model.proofs.SlotSums.{get_slot}
 use Rattle.model.proofs.RulesKept.{rules_say}
-use Rattle.records_words.specs.declared.Sent.{Sent}
 use Rattle.records.specs.declared.Stream.{Stream}
 use Rattle.records.specs.declared.Totals.{Totals}
 use Rattle.records_words.specs.Words.{sent_in}
-use Rattle.records.specs.Seen.{marks_of, packet_of, Lent, seen}
+use Rattle.records.specs.Seen.{seen_time, packet_of, Lent, seen}
 use Rattle.records.proofs.Cut.{cut_length}
 use Rattle.records.proofs.SeenOutgoing.{get_outgoing}
 use Rattle.drive_lost.specs.Packets.{AllSentBounds}
-use Rattle.drive_lost.proofs.Remark.{untimed}
 
--- "neither a time sent .. is past the last clock, which is below 2^60"; a packet without a time sent has 0
-early : (p : Sent) → (p.timed ≡ false → p.sent_at.0 ≡ 0) → (last : ℕ) → last < 2 ^ 60 → ((t : ℕ) → (marks_of p).sent ≡ some t → t ≤ last) → p.sent_at.0 < 2 ^ 60
-early p zero last fits h = go p.timed refl
-  where
-    go : (b : Bool) → p.timed ≡ b → p.sent_at.0 < 2 ^ 60
-    go true e = let a = h p.sent_at.0 (ap (λ (b : Bool). cond b (some p.sent_at.0) none) e) in omega arith
-    go false e = let z = zero e in omega arith
+-- "neither a time sent .. is past the last clock, which is below 2^60"
+early : (o : rust.Option Nanos) (last : ℕ) → last < 2 ^ 60 → ((t : ℕ) → seen_time o ≡ some t → t ≤ last) → ForSome o (λ t. t.0 < 2 ^ 60)
+early o last fits h t e = let a = h t.0 (ap seen_time e) in omega arith
 
 module _ (st : Stream) (t : Totals) (l : Lent) (kept : rules (seen st t l) ≡ true) where
   pub rules_stored : AllSentBounds st.sender l.sent
@@ -36,4 +33,4 @@ module _ (st : Stream) (t : Totals) (l : Lent) (kept : rules (seen st t l) ≡ t
       let e : get s n ≡ some p = get_outgoing st.sender.remote_acked st.sender.seq l.sent l.outgoing n low high ∙ rw is refl in
       let k = rules_say (seen st t l) kept in
       let w = k.stored (n % ceiling) (record { number = n; value = p }) (get_slot s n p e) in
-      record { short = rw cut_length at w.most; early = early q (untimed _ _) st.clocks.last.0 k.last_fits w.sent }
+      record { short = rw cut_length at w.most; early = early q.sent_at st.clocks.last.0 k.last_fits w.sent }

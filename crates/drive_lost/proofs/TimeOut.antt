@@ -99,9 +99,6 @@ pub record Going (s : Sender) (sent₀ sent : List ℕ) (inflight n : ℕ) : Typ
       → time_out_loop (s.seq - n) n (seen_of (with_inflight inflight s) sent outgoing e)
       ≡ time_out_loop (s.seq - s.remote_acked) s.remote_acked (seen_of s sent₀ outgoing e)
 
-pub starts : (s : Sender) (sent : List ℕ) → AllSentBounds s sent → length sent ≡ 64 → Going s sent sent s.inflight s.remote_acked
-starts s sent stored long = record { long = long; low = omega arith; stored = stored; same = λ outgoing e. refl }
-
 module _ {s : Sender} {sent₀ sent : List ℕ} {inflight n : ℕ} (g : Going s sent₀ sent inflight n) where
   -- the model's loop does nothing more
   over : (failed : Bool)

@@ -1,5 +1,6 @@
 -- The stored packets that drive's loops read: what 01's rules say of each, and a sender or stream with one part replaced.
 use Rattle.std.specs.Prelude.{ℕ, ◌%◌, ◌^◌, ◌≤◌, ◌<◌, ◌≡◌, List, true}
+use Rattle.std.specs.Option.{ForSome}
 use Rattle.model.specs.Slots.{ceiling}
 use Rattle.records_words.specs.declared.Sent.{Sent}
 use Rattle.records.specs.declared.Sender.{Sender}
@@ -10,7 +11,7 @@ use Rattle.records_words.specs.Words.{sent_in, is_stored}
 -- which is below 2^60"
 pub record SentBounds (p : Sent) : Type 0 where
   pub short : p.length ≤ 1_400
-  pub early : p.sent_at.0 < 2 ^ 60
+  pub early : ForSome p.sent_at (λ t. t.0 < 2 ^ 60)
 
 -- the same for every stored packet, from remote acked to below seq
 abbrev pub AllSentBounds : Sender → List ℕ → Type 0

@@ -13,7 +13,7 @@ use Rattle.drive_lost.specs.Packets.{AllSentBounds, with_inflight, with_sender}
 -- 01, call 4: "gains a transmit, waits"
 abbrev pub lost_packet : Sent → Sent
 lost_packet p =
-    record { number = p.number; length = p.length; transmits = p.transmits + 1; waiting = true; timed = p.timed; sent_at = p.sent_at }
+    record { number = p.number; length = p.length; transmits = p.transmits + 1; waiting = true; sent_at = p.sent_at }
 
 -- 01, call 4: "each stored packet not waiting, ascending, fails with TimedOut if transmits exceeds 5, else gains a transmit, waits and
 -- leaves inflight" (the loop of poll_check_timeouts)

@@ -4,11 +4,10 @@ ghost use Rattle.records_words.specs.Words.{is_stored};
 ghost use Rattle.drive_lost.specs.Packets.{AllSentBounds};
 ghost use Rattle.drive_lost.specs.Timeouts.{lost_packet, TimesOutPackets};
 
-use crate::inflight::with_inflight;
 use constants::{SENT_WORDS, UDX_MAX_TRANSMITS};
-use picks::less;
-use records::{Sender, Sent, expose_length};
+use records::{Sender, Sent};
 
+// Packets marked before one that failed stay marked, so the sender counts either way: a Result would hold it in both of its cases.
 #[derive(Clone, Copy)]
 pub struct Passed {
     pub sender: Sender,
@@ -20,11 +19,7 @@ pub struct Passed {
 fn in_flight(p: Sent, n: u32) -> bool
     ensures { result ≡ (is_stored p n && not p.waiting) }
 {
-    if records::is_stored(p, n) {
-        !p.waiting
-    } else {
-        false
-    }
+    records::is_stored(p, n) && !p.waiting
 }
 
 // The packet, waiting, with one more transmit.
@@ -32,14 +27,10 @@ fn lost_packet(p: Sent) -> Sent
     requires { p.transmits ≤ 5 }
     ensures { result ≡ lost_packet p }
 {
-    let sent_at = p.sent_at;
     Sent {
-        number: p.number,
-        length: p.length,
         transmits: p.transmits + 1,
         waiting: true,
-        timed: p.timed,
-        sent_at,
+        ..p
     }
 }
 
@@ -49,26 +40,22 @@ pub fn time_out_packets(s: Sender, sent: &mut [u64; SENT_WORDS]) -> Passed
     requires { AllSentBounds s sent.old }
     ensures { TimesOutPackets s sent.old result sent.new }
 {
-    expose_length(sent);
     let mut inflight = s.inflight;
-    let mut n = s.remote_acked;
-    while n < s.seq {
+    for n in s.remote_acked..s.seq {
         let p = records::get_sent(sent, n);
-        let here = in_flight(p, n);
-        n += 1;
-        if here {
+        if in_flight(p, n) {
             if (UDX_MAX_TRANSMITS as u32) < p.transmits {
                 return Passed {
-                    sender: with_inflight(s, inflight),
+                    sender: Sender { inflight, ..s },
                     failed: true,
                 };
             }
             records::put_sent(sent, lost_packet(p));
-            inflight = less(inflight, p.length);
+            inflight = inflight.saturating_sub(p.length);
         }
     }
     Passed {
-        sender: with_inflight(s, inflight),
+        sender: Sender { inflight, ..s },
         failed: false,
     }
 }

@@ -8,6 +8,10 @@ use mathlib.Core.Option.{none, some}
 use mathlib.Core.Bool.{Bool, true, false, cond}
 use lib.Dec.{ltb}
 use lib.ListN.{length}
+use Rattle.std.specs.Prelude as rust
+use Rattle.std.specs.Prelude.{None, Some}
+use Rattle.std.specs.Option.{ForSome}
+use Rattle.rtt.specs.declared.nanos.Nanos.{Nanos}
 use Rattle.rtt.specs.Estimate.{InRange}
 use Rattle.model.specs.Slots.{ceiling, get}
 use Rattle.model.specs.Stream as model
@@ -20,16 +24,15 @@ use Rattle.records.specs.declared.Stream.{Stream}
 use Rattle.records.specs.declared.Totals.{Totals}
 use Rattle.records_words.specs.Words.{sent_in, is_stored}
 use Rattle.records.specs.Cut.{outgoing_slot}
-use Rattle.records.specs.Seen.{Lent, seen, seen_outgoing, marks_of, packet_of}
+use Rattle.records.specs.Seen.{Lent, seen, seen_outgoing, seen_time, packet_of}
 use Rattle.records.specs.Setters.{with_words}
 use Rattle.records.proofs.Cut.{cut_length}
 use Rattle.records.proofs.SeenOutgoing.{outgoing_length, get_outgoing}
 use Rattle.deliver_acks.specs.declared.Acks.{Acks}
-use Rattle.deliver_acks.specs.Acked.{InWindow, with_acks}
+use Rattle.deliver_acks.specs.Acked.{with_acks}
 use Rattle.drive_lost.specs.Packets.{SentBounds, AllSentBounds}
-use Rattle.drive_lost.proofs.Remark.{untimed}
-use Rattle.drive_settle.specs.declared.Polled.{Polled}
-use Rattle.drive_settle.specs.Settling.{no_ack_sender, SettlesOne, Settleable, Settles, Restarts, Settled}
+use Rattle.records.specs.declared.StreamAndTotals.{StreamAndTotals}
+use Rattle.drive_settle.specs.Settling.{no_ack_sender, SettlesOne, Settles, Restarts, Settled}
 use Rattle.drive_settle.proofs.SettleOne.{ack_cases}
 
 abbrev seen_of : Acks → List ℕ → Stream → Lent → model.End
@@ -45,16 +48,7 @@ pub record Going (clock to : ℕ) (a₀ : Acks) (sent₀ : List ℕ) (a : Acks) 
       → drive.settle_loop clock (to - a.sender.remote_acked) (seen_of a sent s l)
       ≡ drive.settle_loop clock (to - a₀.sender.remote_acked) (seen_of a₀ sent₀ s l)
 
-pub starts : (clock to : ℕ) (a : Acks) (sent : List ℕ) → InRange a.rtt → Going clock to a sent a sent
-starts clock to a sent r = record { seq = refl; moved = omega arith; range = r; goes_on = λ s l. refl }
-
 module _ {clock to : ℕ} {a₀ : Acks} {sent₀ : List ℕ} {a : Acks} {sent : List ℕ} (g : Going clock to a₀ sent₀ a sent) where
-  pub next_window : Settleable a₀.sender to → a.sender.remote_acked < to → InWindow a.sender a.sender.remote_acked
-  next_window w less =
-      let seq = g.seq in
-      let moved = g.moved in
-      record { low = omega arith; high = omega (arith, w.high); width = omega (arith, w.width) }
-
   pub settles_next : a.sender.remote_acked < to → {r : Acks} {sent' : List ℕ} → SettlesOne clock a sent r sent' → Going clock to a₀ sent₀ r sent'
   unfolding drive.settle_loop
   settles_next less {r} {sent'} x =
@@ -81,11 +75,6 @@ module _ {clock to : ℕ} {a₀ : Acks} {sent₀ : List ℕ} {a : Acks} {sent : 
         range = g.range;
       }
 
--- the count of numbers left falls
-pub falls : {clock to : ℕ} {a : Acks} {sent : List ℕ} {r : Acks} {sent' : List ℕ} → a.sender.remote_acked < to → SettlesOne clock a sent r sent'
-    → to - r.sender.remote_acked < to - a.sender.remote_acked
-falls less x = omega (arith, x.moved)
-
 -- the packets that stay
 
 settle_cases : (clock k : ℕ) (e : model.End) (m : ℕ) (p : model.Packet) → length e.sender.outgoing ≡ ceiling
@@ -97,13 +86,10 @@ settle_cases clock (suc k) e m p long z =
     (ack_cases clock n e m p long (settle_cases clock k (drive.settle_one clock e) m p (one_length clock n e long) z)).1
 
 -- a packet with the same time sent as another has the same bound on it
-time_within : (p q : Sent) → (q.timed ≡ false → q.sent_at.0 ≡ 0) → (marks_of p).sent ≡ (marks_of q).sent → p.sent_at.0 < 2 ^ 60 → q.sent_at.0 < 2 ^ 60
-time_within p q unset same early = go p.timed q.timed refl same
-  where
-    go : (b c : Bool) → q.timed ≡ c → cond b (some p.sent_at.0) none ≡ cond c (some q.sent_at.0) none → q.sent_at.0 < 2 ^ 60
-    go b false is e = let z = unset is in omega arith
-    go true true is e = let z = some_inj refl e in omega arith
-    go false true is e = absurd (no_some refl e)
+time_within : (o o' : rust.Option Nanos) → seen_time o ≡ seen_time o' → ForSome o (λ t. t.0 < 2 ^ 60) → ForSome o' (λ t. t.0 < 2 ^ 60)
+time_within (Some t) (Some u) same early v e = let a = early t refl in let b = some_inj refl same in let c : u ≡ v = cc in rw (← c) (omega arith)
+time_within None (Some u) same early v e = absurd (no_some refl same)
+time_within o None same early v e = absurd (cc)
 
 module _ (s : Sender) (sent : List ℕ) (r : Sender) (sent' : List ℕ) (seq : r.seq ≡ s.seq) (moved : s.remote_acked ≤ r.remote_acked)
     (came : (m : ℕ) (p : model.Packet) → get (seen_outgoing r.remote_acked r.seq sent' []) m ≡ some p
@@ -138,7 +124,7 @@ module _ (s : Sender) (sent : List ℕ) (r : Sender) (sent' : List ℕ) (seq : r
           sym (cut_length outgoing_slot [] (m % ceiling) old.length) ∙ ap (λ (p : model.Packet). length p.bytes) same ∙ cut_length outgoing_slot [] (m % ceiling) new.length in
           record {
             short = subst (λ (k : ℕ). k ≤ 1_400) size w.short;
-            early = time_within old new (untimed _ _) (ap (λ (p : model.Packet). p.marks.sent) same) w.early;
+            early = time_within old.sent_at new.sent_at (ap (λ (p : model.Packet). p.marks.sent) same) w.early;
           }
       go false e = absurd (no_some (ap (λ (b : Bool). cond b (some (packet_of [] (m % ceiling) old)) none) e) is_old)
 
@@ -154,7 +140,7 @@ module _ (s : Stream) (t : Totals) (clock : ℕ) (sent : List ℕ) where
   abbrev pub acks_of : Acks
   acks_of = record { sender = s.sender; rtt = s.timing.rtt; totals = t }
 
-  module _ {a : Acks} {sent' : List ℕ} (x : Settles clock s.sender.largest_ack acks_of sent a sent') {r : Polled} (y : Restarts s clock a r) where
+  module _ {a : Acks} {sent' : List ℕ} (x : Settles clock s.sender.largest_ack acks_of sent a sent') {r : StreamAndTotals} (y : Restarts s clock a r) where
     abbrev moves : Bool
     moves = ltb s.sender.remote_acked s.sender.largest_ack
 

@@ -1,5 +1,5 @@
 -- Settling the lowest number: it is acked, so its packet is no longer stored, and what is seen from the next number on is the same store.
-use Prim.Native.Nat.{ℕ, suc, ◌+◌, ◌<◌}
+use Prim.Native.Nat.{ℕ, suc, ◌+◌}
 use native.Mathlib.Numerals.{add-one}
 use native.Mathlib.Omega.{arith}
 use mathlib.Core.Path.{◌≡◌, refl, ap, ap₂, sym, ◌∙◌}
@@ -95,9 +95,3 @@ module _ (clock : ℕ) (a : Acks) (sent : List ℕ) (b : Acks) (sent' : List ℕ
         moved = ap (λ (n : ℕ). n + 1) x.same.acked;
         range = x.range;
       }
-
-  pub lowest_below : b.sender.remote_acked < b.sender.seq
-  lowest_below =
-      let acked = x.same.acked in
-      let seq = x.same.seq in
-      omega (arith, w.high)

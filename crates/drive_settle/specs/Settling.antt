@@ -12,7 +12,7 @@ use Rattle.deliver_acks.specs.declared.Acks.{Acks}
 use Rattle.deliver_acks.specs.Acked.{with_acks}
 use Rattle.drive_timer.specs.Timer.{timing_seen}
 use Rattle.drive_lost.specs.Packets.{AllSentBounds}
-use Rattle.drive_settle.specs.declared.Polled.{Polled}
+use Rattle.records.specs.declared.StreamAndTotals.{StreamAndTotals}
 
 -- remote_acked += 1
 abbrev pub past_one : Sender → Sender
@@ -59,7 +59,7 @@ with_timed x t s =
     }
 
 -- 01, call 4: "and if it moved, deadline = now + rto", with the estimate that settling left
-pub record Restarts (s : Stream) (clock : ℕ) (a : Acks) (r : Polled) : Type 0 where
+pub record Restarts (s : Stream) (clock : ℕ) (a : Acks) (r : StreamAndTotals) : Type 0 where
   pub timing : timing_seen r.stream.timing
       ≡ drive.restarted clock (ltb s.sender.remote_acked s.sender.largest_ack) (timing_seen (with_acks a s).timing)
   pub sender : r.stream.sender ≡ no_ack_sender a.sender
@@ -74,7 +74,7 @@ pub record Acked (s : Stream) (clock : ℕ) : Type 0 where
   pub width : s.sender.seq ≤ s.sender.remote_acked + 32
 
 -- handle_incoming_max_remote_ack
-pub record Settled (s : Stream) (t : Totals) (clock : ℕ) (sent : List ℕ) (r : Polled) (sent' : List ℕ) : Type 0 where
+pub record Settled (s : Stream) (t : Totals) (clock : ℕ) (sent : List ℕ) (r : StreamAndTotals) (sent' : List ℕ) : Type 0 where
   pub seen_after : (l : Lent) → seen r.stream r.totals (with_words sent' l) ≡ drive.settle clock (seen s t (with_words sent l))
   pub others : r.stream ≡ with_timed r.stream.sender r.stream.timing s
   pub seq : r.stream.sender.seq ≡ s.sender.seq

@@ -1,6 +1,6 @@
 -- The timeout check on the records agrees with the model's on what is seen: by the timer's laws if it is due, and by that of `terminate`
 -- if a packet failed. If the timer is not due, nothing changes.
-use Prim.Native.Nat.{ℕ, ◌+◌, ◌-◌, ◌≤◌, ◌<◌}
+use Prim.Native.Nat.{ℕ, ◌-◌}
 use native.Mathlib.Omega.{arith}
 use mathlib.Core.Path.{◌≡◌, refl, ap, ap₂, sym, subst, ◌∙◌}
 use mathlib.Core.List.{List, []}
@@ -20,13 +20,13 @@ use Rattle.records.specs.declared.Totals.{Totals}
 use Rattle.records.specs.Seen.{Lent, seen, formed_queue}
 use Rattle.records.specs.Setters.{with_queue, with_words}
 use Rattle.close_state.specs.declared.Queued.{Queued}
-use Rattle.close_state.specs.State.{seen_ending, Pushable, StateQueued, with_ending, with_state}
+use Rattle.close_state.specs.State.{seen_ending, StateQueued, with_ending, with_state}
 use Rattle.close_state.proofs.StatePacket.{terminate_seen}
 use Rattle.drive_lost.specs.declared.timeouts.Passed.{Passed}
 use Rattle.drive_lost.specs.Packets.{AllSentBounds}
 use Rattle.drive_timer.specs.Timer.{timing_seen, IsDue, Shrinks}
 use Rattle.drive_lost.specs.Timeouts as pass
-use Rattle.drive_settle.specs.declared.Polled.{Polled}
+use Rattle.records.specs.declared.StreamAndTotals.{StreamAndTotals}
 use Rattle.drive_timeouts.specs.declared.Lost.{Lost}
 use Rattle.drive_settle.specs.Settling.{with_timed}
 use Rattle.drive_timeouts.specs.Timeouts.{Losable, Loses, OneMoreEntry, TimesOutStream, with_polled, Checked}
@@ -65,9 +65,6 @@ loses s clock sent later smaller p sent' backs shrinks x =
 module _ {s : Stream} {clock : ℕ} {sent : List ℕ} {lost : Lost} {sent' : List ℕ} (x : Loses s clock sent lost sent') where
   queue_same : lost.stream.queue ≡ s.queue
   queue_same = ap (λ (z : Stream). z.queue) x.others
-
-  pub lost_able : {store : ℕ} → Pushable s.queue store → Pushable lost.stream.queue store
-  lost_able {store} able = subst (λ (q : Queue). Pushable q store) (sym queue_same) able
 
 -- the stream ends
 
@@ -129,7 +126,7 @@ module _ (s : Stream) (t : Totals) (clock : ℕ) (sent queue : List ℕ) (header
         }
 
     -- a packet failed
-    pub checks_failed : lost.failed ≡ true → {r : Polled} {queue' : List ℕ} {headers' : Bytes} → TimesOutStream lost.stream t queue headers r queue' headers'
+    pub checks_failed : lost.failed ≡ true → {r : StreamAndTotals} {queue' : List ℕ} {headers' : Bytes} → TimesOutStream lost.stream t queue headers r queue' headers'
         → Checked s t clock sent queue headers r sent' queue' headers'
     checks_failed fails {r} {queue'} {headers'} y =
         record {

@@ -12,7 +12,7 @@ use Rattle.records.specs.Seen.{Lent, seen, formed_queue}
 use Rattle.records.specs.Setters.{with_queue, with_words}
 use Rattle.close_state.specs.State.{Pushable, with_ending, with_state}
 use Rattle.drive_lost.specs.Packets.{AllSentBounds}
-use Rattle.drive_settle.specs.declared.Polled.{Polled}
+use Rattle.records.specs.declared.StreamAndTotals.{StreamAndTotals}
 use Rattle.drive_timeouts.specs.declared.Lost.{Lost}
 use Rattle.drive_settle.specs.Settling.{with_timed}
 
@@ -41,7 +41,7 @@ pub record OneMoreEntry (q : Queue) (queue : List ℕ) (q' : Queue) (queue' : Li
   pub whole : length headers' ≡ 1_280
 
 -- 01, call 4: "TimedOut terminates as in terminate"
-pub record TimesOutStream (s : Stream) (t : Totals) (queue : List ℕ) (headers : Bytes) (r : Polled) (queue' : List ℕ) (headers' : Bytes) : Type 0 where
+pub record TimesOutStream (s : Stream) (t : Totals) (queue : List ℕ) (headers : Bytes) (r : StreamAndTotals) (queue' : List ℕ) (headers' : Bytes) : Type 0 where
   pub seen_after : formed_queue s.queue queue ≡ true → (l : Lent)
       → seen r.stream r.totals (with_state queue' headers' l) ≡ terminate error.TimedOut (seen s t (with_state queue headers l))
   pub others : r.stream ≡ with_queue r.stream.queue (with_ending r.stream.ending s)
@@ -58,7 +58,7 @@ with_polled sent queue headers l =
     record { sent = sent; held = l.held; queue = queue; outgoing = l.outgoing; incoming = l.incoming; headers = headers }
 
 -- poll_check_timeouts
-pub record Checked (s : Stream) (t : Totals) (clock : ℕ) (sent queue : List ℕ) (headers : Bytes) (r : Polled) (sent' queue' : List ℕ) (headers' : Bytes) : Type 0 where
+pub record Checked (s : Stream) (t : Totals) (clock : ℕ) (sent queue : List ℕ) (headers : Bytes) (r : StreamAndTotals) (sent' queue' : List ℕ) (headers' : Bytes) : Type 0 where
   pub seen_after : formed_queue s.queue queue ≡ true → (l : Lent)
       → seen r.stream r.totals (with_polled sent' queue' headers' l) ≡ drive.check_timeouts clock (seen s t (with_polled sent queue headers l))
   pub receiver : r.stream.receiver ≡ s.receiver

@@ -7,11 +7,11 @@ ghost use Rattle.drive_timeouts.specs.Timeouts.{Losable, Loses, TimesOutStream, 
 ghost use Rattle.std.specs.Prelude.{length};
 
 use constants::{QUEUE_WORDS, SENT_WORDS};
-use drive_settle::Polled;
 use error::UdxError;
-use records::{Stream, Totals};
+use records::{Stream, StreamAndTotals, Totals};
 use rtt::Nanos;
 
+// The stream is used on whether or not a packet failed: a Result would hold it in both of its cases.
 #[derive(Clone, Copy)]
 pub struct Lost {
     pub stream: Stream,
@@ -24,47 +24,50 @@ fn consider_lost(s: Stream, clock: Nanos, sent: &mut [u64; SENT_WORDS]) -> Lost
     requires { Losable s clock.0 sent.old }
     ensures { Loses s clock.0 sent.old result sent.new }
 {
-    let timing = s.timing;
-    let before = s.sender;
-    let later = drive_timer::backed_off(timing, clock);
-    let smaller = drive_timer::shrunk(before);
+    let later = drive_timer::backed_off(s.timing, clock);
+    let smaller = drive_timer::shrunk(s.sender);
     let p = drive_lost::time_out_packets(smaller, sent);
-    let sender = p.sender;
-    let mut stream = s;
-    stream.sender = sender;
-    stream.timing = later;
     Lost {
-        stream,
+        stream: Stream {
+            sender: p.sender,
+            timing: later,
+            ..s
+        },
         failed: p.failed,
     }
 }
 
 // "TimedOut terminates as in terminate"
-fn timed_out(s: Stream, t: Totals, queue: &mut [u64; QUEUE_WORDS], headers: &mut [u8]) -> Polled
+fn timed_out(
+    s: Stream,
+    t: Totals,
+    queue: &mut [u64; QUEUE_WORDS],
+    headers: &mut [u8],
+) -> StreamAndTotals
     requires { Pushable s.queue (length headers.old) }
     ensures { TimesOutStream s t queue.old headers.old result queue.new
         headers.new }
 {
-    let before = s.ending;
-    let ending = close_state::terminated(before, UdxError::TimedOut);
-    let error = ending.error;
-    let q = s.queue;
+    let ending = close_state::terminated(s.ending, UdxError::TimedOut);
     let k = close_state::send_state_packet(
-        q,
+        s.queue,
         t,
-        error,
+        ending.error,
         s.ids.remote,
         s.sender.seq,
         s.receiver.ack,
         queue,
         headers,
     );
-    let after = k.queue;
-    let totals = k.totals;
-    let mut stream = s;
-    stream.queue = after;
-    stream.ending = ending;
-    Polled { stream, totals }
+    let stream = Stream {
+        queue: k.queue,
+        ending,
+        ..s
+    };
+    StreamAndTotals {
+        stream,
+        totals: k.totals,
+    }
 }
 
 // poll_check_timeouts. Packets marked before the one that failed stay marked.
@@ -75,22 +78,22 @@ pub fn poll_check_timeouts(
     sent: &mut [u64; SENT_WORDS],
     queue: &mut [u64; QUEUE_WORDS],
     headers: &mut [u8],
-) -> Polled
+) -> StreamAndTotals
     requires { Checkable s clock.0 sent.old headers.old }
     ensures { Checked s t clock.0 sent.old queue.old headers.old result
         sent.new queue.new headers.new }
 {
-    let timing = s.timing;
-    let sender = s.sender;
-    if drive_timer::due(timing, clock, sender) {
+    if drive_timer::due(s.timing, clock, s.sender) {
         let lost = consider_lost(s, clock, sent);
-        let stream = lost.stream;
         if lost.failed {
-            return timed_out(stream, t, queue, headers);
+            return timed_out(lost.stream, t, queue, headers);
         }
-        return Polled { stream, totals: t };
+        return StreamAndTotals {
+            stream: lost.stream,
+            totals: t,
+        };
     }
-    Polled {
+    StreamAndTotals {
         stream: s,
         totals: t,
     }

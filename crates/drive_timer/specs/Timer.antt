@@ -13,9 +13,6 @@ use Rattle.records.specs.Seen.{Lent, seen, seen_sender}
 abbrev pub timing_seen : Timing → model.Timing
 timing_seen t = record { rtt = t.rtt; deadline = t.deadline.0.0 }
 
-abbrev pub with_deadline : ℕ → model.Timing → model.Timing
-with_deadline at t = record { rtt = t.rtt; deadline = at }
-
 -- 01, call 4: "if deadline is at most now and remote acked differs from seq", for any stream with this timing and this sender
 pub record IsDue (t : Timing) (clock : ℕ) (s : Sender) (r : Bool) : Type 0 where
   pub test : (st : Stream) (totals : Totals) (l : Lent) → st.timing ≡ t → st.sender ≡ s → r ≡ drive.due clock (seen st totals l)

@@ -4,7 +4,7 @@
 use Prim.Native.Nat.{ℕ, zero, suc, ◌+◌, ◌-◌, ◌*◌, ◌%◌, ◌≤◌, ◌<◌}
 use native.Mathlib.Numerals.{add-one}
 use native.Mathlib.Omega.{arith}
-use mathlib.Core.Path.{◌≡◌, refl, ap, ap₂, sym, ◌∙◌}
+use mathlib.Core.Path.{◌≡◌, refl, ap, ap₂, sym, subst, ◌∙◌}
 use mathlib.Core.List.{List, [], ◌++◌, append_assoc, append-nil}
 use mathlib.Core.Option.{none, some}
 use mathlib.Core.Bool.{Bool, true, false, true≢false, cond, ◌||◌}
@@ -45,11 +45,6 @@ module _ {p : Held} {store buf : Bytes} {at count : ℕ} (a : CanPut p store buf
       cut_drop incoming_slot store (p.number % ceiling) (p.past - 1) p.offset room (omega (arith, in_is)) ∙ rw in_is refl in
       is ∙ rw (k, whole, take-take count (left_count p) (drop (p.number % 32 * 1_380 + p.offset) store) a.enough) refl
 
-  pub next_room : at + length bytes ≤ length buf
-  next_room =
-      let l : length bytes ≤ count = rw lies (simp length-take (omega arith)) in
-      omega (arith, a.room)
-
   pub next_put : {buf' : Bytes} → buf' ≡ put buf at bytes → buf' ≡ put buf at (take count (left_bytes store p))
   next_put e = e ∙ ap (put buf at) lies
 
@@ -84,38 +79,39 @@ or_true false = refl
 
 -- the loop
 
--- how many packets the model may still visit
-abbrev visits : Receiver → Receiver → ℕ
-visits r s = (r.read_cursor + ceiling) - s.read_cursor
+-- the receiver with the read cursor at n, and how many packets the model may still visit from there
+abbrev read_up_to : Receiver → ℕ → Receiver
+read_up_to r n = record r { read_cursor = n }
+
+abbrev visits : Receiver → ℕ → ℕ
+visits r n = (r.read_cursor + ceiling) - n
 
 -- the loop's invariant; `bytes` were put so far
-pub record Going (r : Receiver) (words₀ : List ℕ) (store buf₀ : Bytes) (s : Receiver) (words : List ℕ) (buf : Bytes) (count : ℕ) (any : Bool) : Type 0 where
+pub record Going (r : Receiver) (words₀ : List ℕ) (store buf₀ : Bytes) (n : ℕ) (words : List ℕ) (buf : Bytes) (count : ℕ) (any : Bool) : Type 0 where
   pub readable : Readable r words₀ store
   pub kept : words ≡ words₀
-  pub top : s.top ≡ r.top
-  pub passed : r.read_cursor ≤ s.read_cursor
-  pub from : s.read_cursor ≤ s.top
+  pub passed : r.read_cursor ≤ n
+  pub from : n ≤ r.top
   pub bytes : Bytes
   pub counted : length bytes ≡ count
   pub within : count ≤ length buf₀
   pub copied : buf ≡ put buf₀ 0 bytes
-  pub unmoved : any ≡ false → s ≡ r
-  pub same : joined bytes any (read_loop (visits r s) (length buf₀ - count) (seen_receiver s words₀ store)) ≡ got r words₀ store buf₀
+  pub unmoved : any ≡ false → n ≡ r.read_cursor
+  pub same : joined bytes any (read_loop (visits r n) (length buf₀ - count) (seen_receiver (read_up_to r n) words₀ store)) ≡ got r words₀ store buf₀
 
 put_none : (buf : Bytes) → buf ≡ put buf 0 []
 unfolding put
 put_none buf = refl
 
-pub read_starts : (r : Receiver) (words : List ℕ) (store buf : Bytes) → Readable r words store → Going r words store buf r words buf 0 false
+pub read_starts : {r : Receiver} {words : List ℕ} {store buf : Bytes} → Readable r words store → Going r words store buf r.read_cursor words buf 0 false
 unfolding read_next
-read_starts r words store buf a =
+read_starts {r} {words} {store} {buf} a =
     let x = a.laid in
-    let e : visits r r ≡ ceiling = omega arith in
+    let e : visits r r.read_cursor ≡ ceiling = omega arith in
     let z : length buf - 0 ≡ length buf = omega arith in
     record {
       readable = a;
       kept = refl;
-      top = refl;
       passed = omega arith;
       from = x.from;
       bytes = [];
@@ -126,20 +122,15 @@ read_starts r words store buf a =
       same = rw (e, z) refl;
     }
 
--- the read cursor plus one
-abbrev one_more : Receiver → Receiver
-one_more s = record { ack = s.ack; read_cursor = s.read_cursor + 1; top = s.top }
-
-module _ {r : Receiver} {words₀ : List ℕ} {store buf₀ : Bytes} {s : Receiver} {words : List ℕ} {buf : Bytes} {count : ℕ} {any : Bool}
-    (g : Going r words₀ store buf₀ s words buf count any) where
+module _ {r : Receiver} {words₀ : List ℕ} {store buf₀ : Bytes} {n : ℕ} {words : List ℕ} {buf : Bytes} {count : ℕ} {any : Bool}
+    (g : Going r words₀ store buf₀ n words buf count any) where
   -- the model's receiver
   abbrev m : model.Receiver
-  m = seen_receiver s words₀ store
+  m = seen_receiver (read_up_to r n) words₀ store
 
-  width : s.top ≤ s.read_cursor + ceiling
+  width : r.top ≤ n + ceiling
   width =
       let x = g.readable.laid in
-      let t = g.top in
       let c = g.passed in
       omega arith
 
@@ -152,73 +143,74 @@ module _ {r : Receiver} {words₀ : List ℕ} {store buf₀ : Bytes} {s : Receiv
 
   -- the read ends with the bytes d put
   ends : (d : Bytes) {count' : ℕ} {words' : List ℕ} {buf' : Bytes}
-      → record { bytes = d; ready = any; receiver = seen_receiver s words' store } ≡ got r words₀ store buf₀
+      → record { bytes = d; ready = any; receiver = seen_receiver (read_up_to r n) words' store } ≡ got r words₀ store buf₀
       → count' ≡ length d → buf' ≡ put buf₀ 0 d
-      → HasRead r words₀ store buf₀ (record { receiver = s; count = count'; finished = any }) words' buf'
-  ends d e n q =
+      → HasRead r words₀ store buf₀ (record { receiver = read_up_to r n; count = count'; finished = any }) words' buf'
+  ends d e all q =
       record {
-        count = n ∙ ap (λ (x : Got). length x.bytes) e;
+        count = all ∙ ap (λ (x : Got). length x.bytes) e;
         finished = ap (λ (x : Got). x.ready) e;
         copied = q ∙ ap (λ (x : Got). put buf₀ 0 x.bytes) e;
         seen = ap (λ (x : Got). x.receiver) e;
         laid = record { from = g.from; width = width };
-        unmoved = g.unmoved;
+        unmoved = λ z. ap (read_up_to r) (g.unmoved z);
       }
 
-  stops : get m.incoming s.read_cursor ≡ none → HasRead r words₀ store buf₀ (record { receiver = s; count = count; finished = any }) words buf
+  stops : get m.incoming n ≡ none → HasRead r words₀ store buf₀ (record { receiver = read_up_to r n; count = count; finished = any }) words buf
   stops e =
-      let stop = ap (joined g.bytes any) (read_none (length buf₀ - count) m (visits r s) e) in
+      let stop = ap (joined g.bytes any) (read_none (length buf₀ - count) m (visits r n) e) in
       ends g.bytes (rw g.kept (sym (rw (append-nil, or_false) at stop)) ∙ g.same) (sym g.counted) g.copied
 
-  pub read_at_top : s.top ≤ s.read_cursor → HasRead r words₀ store buf₀ (record { receiver = s; count = count; finished = any }) words buf
-  read_at_top l = stops (get_past s.read_cursor s.top words₀ store s.read_cursor l)
+  pub read_at_top : r.top ≤ n → HasRead r words₀ store buf₀ (record { receiver = read_up_to r r.top; count = count; finished = any }) words buf
+  read_at_top l =
+      let f = g.from in
+      let at : n ≡ r.top = omega arith in
+      subst (λ (k : ℕ). HasRead r words₀ store buf₀ (record { receiver = read_up_to r k; count = count; finished = any }) words buf) at
+      (stops (get_past n r.top words₀ store n l))
 
-  module _ (below : s.read_cursor < s.top) {p : Held} (is : p ≡ held_in words (s.read_cursor % 32)) where
-    entry : get m.incoming s.read_cursor ≡ cond (is_held p s.read_cursor) (some (held_payload store (s.read_cursor % ceiling) p)) none
-    entry = get_incoming s.read_cursor s.top words₀ store s.read_cursor (omega arith) below ∙ rw (is, g.kept) refl
+  module _ (below : n < r.top) {p : Held} (is : p ≡ held_in words (n % 32)) where
+    entry : get m.incoming n ≡ cond (is_held p n) (some (held_payload store (n % ceiling) p)) none
+    entry = get_incoming n r.top words₀ store n (omega arith) below ∙ rw (is, g.kept) refl
 
-    pub read_at_gap : is_held p s.read_cursor ≡ false
-        → HasRead r words₀ store buf₀ (record { receiver = s; count = count; finished = any }) words buf
+    pub read_at_gap : is_held p n ≡ false
+        → HasRead r words₀ store buf₀ (record { receiver = read_up_to r n; count = count; finished = any }) words buf
     read_at_gap e = stops (entry ∙ rw e refl)
 
-    module _ (here : is_held p s.read_cursor ≡ true) where
-      number : p.number ≡ s.read_cursor
-      number = held_number p s.read_cursor here
+    module _ (here : is_held p n ≡ true) where
+      number : p.number ≡ n
+      number = held_number p n here
 
       pub read_fits : Fit p
       read_fits =
-          let t = g.top in
-          let f = g.readable.packets s.read_cursor g.passed (omega arith) in
+          let f = g.readable.packets n g.passed (omega arith) in
           rw (← g.kept, ← is) at f here
 
-      found : get m.incoming s.read_cursor ≡ some (held_payload store (p.number % ceiling) p)
+      found : get m.incoming n ≡ some (held_payload store (p.number % ceiling) p)
       found = entry ∙ rw (here, number) refl
 
       -- the model visits this packet too
-      visit : {x : Got} → read_loop (suc (visits r (one_more s))) (length buf₀ - count) m ≡ x → read_loop (visits r s) (length buf₀ - count) m ≡ x
+      visit : {x : Got} → read_loop (suc (visits r (n + 1))) (length buf₀ - count) m ≡ x → read_loop (visits r n) (length buf₀ - count) m ≡ x
       visit e =
           let w = width in
-          let t = g.top in
           let x = g.readable.laid in
-          ap (λ (k : ℕ). read_loop k (length buf₀ - count) m) (let one : visits r s ≡ suc (visits r (one_more s)) = omega arith in one) ∙ e
+          ap (λ (k : ℕ). read_loop k (length buf₀ - count) m) (let one : visits r n ≡ suc (visits r (n + 1)) = omega arith in one) ∙ e
 
-      past : seen_receiver (one_more s) words₀ store ≡ finished m
-      past = rw (add-one, finish_incoming s.read_cursor s.top words₀ store below width) refl
+      past : seen_receiver (read_up_to r (n + 1)) words₀ store ≡ finished m
+      past = rw (add-one, finish_incoming n r.top words₀ store below width) refl
 
       -- what is left of it fits: it is put whole
       pub read_turn : {k : ℕ} {buf' : Bytes} → k ≡ left_count p → k ≤ length buf₀ - count → buf' ≡ put buf count (take k (left_bytes store p))
-          → Going r words₀ store buf₀ (one_more s) words buf' (count + k) true
-      read_turn {k} {buf'} n l e =
+          → Going r words₀ store buf₀ (n + 1) words buf' (count + k) true
+      read_turn {k} {buf'} left l e =
           let w = g.within in
           let c = g.passed in
-          let q : length (left_bytes store p) ≡ k = left_length store p ∙ sym n in
+          let q : length (left_bytes store p) ≡ k = left_length store p ∙ sym left in
           let all : take k (left_bytes store p) ≡ left_bytes store p = rw (← q) (take-length (left_bytes store p)) in
           let room : length buf₀ - (count + k) ≡ length buf₀ - count - length (left_bytes store p) = omega (arith, q) in
-          let turn = ap (joined g.bytes any) (visit (read_whole (length buf₀ - count) m (visits r (one_more s)) found (omega (arith, q)))) in
+          let turn = ap (joined g.bytes any) (visit (read_whole (length buf₀ - count) m (visits r (n + 1)) found (omega (arith, q)))) in
           record {
             readable = g.readable;
             kept = g.kept;
-            top = g.top;
             passed = omega arith;
             from = omega arith;
             bytes = g.bytes ++ left_bytes store p;
@@ -231,34 +223,33 @@ module _ {r : Receiver} {words₀ : List ℕ} {store buf₀ : Bytes} {s : Receiv
 
       -- its read offset moves
       moved : (room : ℕ) {words' : List ℕ} {buf' : Bytes} → Front p store count words buf words' buf' → length buf - count ≡ room → room < left_count p
-          → seen_receiver s words' store ≡ read_to (p.offset + room) (held_payload store (p.number % ceiling) p) m
+          → seen_receiver (read_up_to r n) words' store ≡ read_to (p.offset + room) (held_payload store (p.number % ceiling) p) m
       moved room {words'} f e l =
           let fit = read_fits in
-          let n = s.read_cursor in
           let is₀ : p ≡ held_in words₀ (n % ceiling) = rw g.kept at is in
           let back : held_of (held_word (moved_by room p)) ≡ moved_by room p = held_back (moved_by room p) (omega arith) (omega arith) f.number in
           let put : words' ≡ set words₀ (n % ceiling) (held_word (moved_by room p)) =
           f.moved ∙ ap₂ (λ (i k : ℕ). set words (i % ceiling) (held_word (moved_by k p))) number e ∙ rw g.kept refl in
           let all =
-          offset_incoming n words₀ (sym (ap length g.kept) ∙ f.long) n (moved_by room p) number (held_full p n here) back (omega arith) s.top store
+          offset_incoming n words₀ (sym (ap length g.kept) ∙ f.long) n (moved_by room p) number (held_full p n here) back (omega arith) r.top store
           below (ap (λ (q : Held). q.past) is₀) in
           rw put
-          (ap (λ (x : Slots model.Held). record { ack = s.ack; read_cursor = n; incoming = x })
+          (ap (λ (x : Slots model.Held). record { ack = r.ack; read_cursor = n; incoming = x })
           ((rw (← is₀) at all)
           ∙ ap (λ (i : ℕ). insert m.incoming n (record { payload = cut incoming_slot store (i % ceiling) (p.past - 1); offset = p.offset + room }))
           (sym number)))
 
       -- it does not fit: its front part is put, and fills the buffer
       pub read_part : {k : ℕ} {words' : List ℕ} {buf' : Bytes} → k ≡ left_count p → length buf₀ - count < k → Front p store count words buf words' buf'
-          → HasRead r words₀ store buf₀ (record { receiver = s; count = length buf₀; finished = any }) words' buf'
-      read_part {k} {words'} {buf'} n l f =
+          → HasRead r words₀ store buf₀ (record { receiver = read_up_to r n; count = length buf₀; finished = any }) words' buf'
+      read_part {k} {words'} {buf'} left l f =
           let w = g.within in
           let size : length buf ≡ length buf₀ = ap length g.copied ∙ put_length buf₀ 0 g.bytes (omega (arith, g.counted)) in
           let room = length buf₀ - count in
           let e : length buf - count ≡ room = rw size refl in
           let part = take room (left_bytes store p) in
           let z : length part ≡ room = simp (length-take, left_length) (omega arith) in
-          let front = ap (joined g.bytes any) (visit (read_front room m (visits r (one_more s)) found (rw left_length (rw n at l)))) in
+          let front = ap (joined g.bytes any) (visit (read_front room m (visits r (n + 1)) found (rw left_length (rw left at l)))) in
           ends (g.bytes ++ part) (rw (moved room f e (omega arith)) (sym (rw or_false at front)) ∙ g.same)
           (sym (length-append g.bytes part ∙ rw (z, g.counted) (omega arith)))
           (next part (omega (arith, z)) (f.copied ∙ ap (λ (k : ℕ). put buf count (take k (left_bytes store p))) e))

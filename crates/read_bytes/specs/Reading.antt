@@ -46,7 +46,7 @@ abbrev pub moved_by : ℕ → Held → Held
 moved_by k p = record { number = p.number; past = p.past; offset = p.offset + k }
 
 -- the front part of a packet that is longer than the room: it fills the buffer, and the packet's read offset moves. `long` and `number`
--- come from `word_count` and from the packet's type.
+-- come from the types of the array and of the packet.
 pub record Front (p : Held) (incoming : Bytes) (at : ℕ) (held : List ℕ) (buf : Bytes) (held' : List ℕ) (buf' : Bytes) : Type 0 where
   pub long : length held ≡ 32
   pub number : p.number < 2 ^ 32

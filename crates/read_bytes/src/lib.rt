@@ -15,7 +15,7 @@ ghost use Rattle.read_bytes.specs.Reading.{
 };
 
 use constants::HELD_WORDS;
-use records::{Held, Receiver, expose_length};
+use records::{Held, Receiver};
 
 // What a read did.
 #[derive(Clone, Copy)]
@@ -23,7 +23,7 @@ pub struct Read {
     pub receiver: Receiver,
     // Bytes put into the buffer, a front part included; the rest of the buffer is unchanged.
     pub count: usize,
-    // A packet was finished: the read answers ready.
+    // A packet was finished: the read answers ready. Without one the bytes of a front part still count, so there is no Option.
     pub finished: bool,
 }
 
@@ -32,11 +32,7 @@ fn left(p: Held) -> u32
     requires { Fit p }
     ensures { result ≡ left_count p }
 {
-    if p.past == 0 {
-        0
-    } else {
-        p.past - 1 - p.offset
-    }
+    p.past.saturating_sub(1) - p.offset
 }
 
 // Puts the next `count` bytes of a held packet into buf, from `at` on.
@@ -56,13 +52,11 @@ fn read_front(held: &mut [u64; HELD_WORDS], incoming: &[u8], buf: &mut [u8], at:
         buf.new }
 {
     let room = (buf.len() - at) as u32;
-    let q = Held {
-        number: p.number,
-        past: p.past,
-        offset: p.offset + room,
-    };
     put_next(buf, at, incoming, p, room);
-    expose_length(held);
+    let q = Held {
+        offset: p.offset + room,
+        ..p
+    };
     records::put_held(held, q);
 }
 
@@ -74,35 +68,39 @@ pub fn read_next(r: Receiver, held: &mut [u64; HELD_WORDS], incoming: &[u8], buf
         buf.new }
 {
     let size = buf.len();
-    let mut s = r;
     let mut count: usize = 0;
     let mut finished = false;
-    while s.read_cursor < s.top {
-        let p = records::get_held(held, s.read_cursor);
-        if records::is_held(p, s.read_cursor) {
-            let k = left(p);
-            if size - count < k as usize {
-                read_front(held, incoming, buf, count, p);
-                return Read {
-                    receiver: s,
-                    count: size,
-                    finished,
-                };
-            }
-            put_next(buf, count, incoming, p, k);
-            count += k as usize;
-            s.read_cursor += 1;
-            finished = true;
-        } else {
+    for n in r.read_cursor..r.top {
+        let receiver = Receiver {
+            read_cursor: n,
+            ..r
+        };
+        let p = records::get_held(held, n);
+        if !records::is_held(p, n) {
             return Read {
-                receiver: s,
+                receiver,
                 count,
                 finished,
             };
         }
+        let k = left(p);
+        if size - count < k as usize {
+            read_front(held, incoming, buf, count, p);
+            return Read {
+                receiver,
+                count: size,
+                finished,
+            };
+        }
+        put_next(buf, count, incoming, p, k);
+        count += k as usize;
+        finished = true;
     }
     Read {
-        receiver: s,
+        receiver: Receiver {
+            read_cursor: r.top,
+            ..r
+        },
         count,
         finished,
     }

@@ -61,9 +61,9 @@ module _ (words : List ℕ) (m l all k : ℕ) (e : all ≡ k + same_from words (
       let o : same_from words (m - k - 1) l (k + 1) ≡ same_from words (m - (k + 1)) l (k + 1) = ap (λ (x : ℕ). same_from words x l (k + 1)) a in
       omega arith
 
-  pub same_over : m ≤ k → k ≡ all
+  pub same_over : m ≤ k → k ≤ m → m ≡ all
   unfolding same_from
-  same_over h =
+  same_over h u =
       let z : m - k ≡ 0 = omega arith in
       let n : same_from words (m - k) l k ≡ 0 = ap (λ (x : ℕ). same_from words x l k) z in
       omega arith

@@ -7,7 +7,7 @@ ghost use Rattle.records.specs.Seen.{entry_words};
 ghost use Rattle.take_batch.specs.Batch.{entry_size, Batched, Heads};
 
 use constants::{QUEUE_WORDS, UDX_HEADER_SIZE};
-use records::{Entry, Queue, expose_length, least};
+use records::{Entry, Queue};
 
 // The size of an entry's datagram; a state packet is a bare header.
 fn entry_size(x: Entry) -> u32
@@ -34,17 +34,14 @@ pub fn batch(q: Queue, segments: u8, queue: &[u64; QUEUE_WORDS]) -> u32
     requires { (q.left ≤ q.count) × (q.count ≤ 128) × (1 ≤ q.left) }
     ensures { Batched q segments queue.now result }
 {
-    expose_length(queue);
-    let most = least(segments as usize, q.left as usize) as u32;
+    let most = (segments as u32).min(q.left);
     let size = entry_size(left_entry(q, queue, 0));
-    let mut k: u32 = 0;
-    while k < most {
+    for k in 0..most {
         if entry_size(left_entry(q, queue, k)) != size {
             return k;
         }
-        k += 1;
     }
-    k
+    most
 }
 
 // The length of the first entry left to take: the segment size of its batch.
@@ -52,6 +49,5 @@ pub fn head_length(q: Queue, queue: &[u64; QUEUE_WORDS]) -> u32
     requires { (q.left ≤ q.count) × (q.count ≤ 128) × (1 ≤ q.left) }
     ensures { Heads q queue.now result }
 {
-    expose_length(queue);
     entry_size(left_entry(q, queue, 0))
 }

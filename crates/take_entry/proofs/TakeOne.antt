@@ -5,10 +5,11 @@ use native.Mathlib.Omega.{arith}
 use mathlib.Core.Path.{◌≡◌, refl, ap, sym, ◌∙◌}
 use mathlib.Core.List.{List, [], ◌∷◌, ◌++◌, append-nil}
 use mathlib.Core.Option.{none, some}
-use mathlib.Core.Bool.{Bool, true, false, cond, ◌&&◌, true≢false}
+use mathlib.Core.Bool.{Bool, true, false, cond, ◌&&◌}
 use lib.Dec.{leb, ltb}
 use borrow.Author.Tests.{leb-true, leb-false, ltb-true, ltb-false}
 use lib.ListN.{length, take, drop, length-take, length-set, take-append-drop}
+use Rattle.rtt.specs.Estimate.{nanos}
 use Rattle.model.specs.Lists.{Bytes}
 use Rattle.model.specs.Slots.{Slots, ceiling, get, insert}
 use Rattle.model.specs.Stream as model
@@ -85,7 +86,7 @@ module _ (s : Sender) (sent : List ℕ) (outgoing : Bytes) (n : ℕ) where
         let b = within.few in
         let number = stored_number p n there_stored in
         let back : sent_of (sent_word (taken_packet p clock)) (sent_time (taken_packet p clock)) ≡ taken_packet p clock =
-        sent_back (taken_packet p clock) (omega arith) (omega arith) (rw number fits) (omega arith) (λ z. absurd (true≢false z)) in
+        sent_back (taken_packet p clock) (omega arith) (omega arith) (rw number fits) (λ t e. let same : nanos clock ≡ t = cc in rw (← same) (omega arith)) in
         let one : p.transmits + 1 ≡ suc p.transmits = omega arith in
         remark_outgoing s.remote_acked sent long n (taken_packet p clock) number (stored_full p n there_stored) back there_low s.seq outgoing
         (taken_marks clock) there_high refl (ap (λ (k : ℕ). record { waiting = p.waiting; transmits = k; sent = some clock }) one)

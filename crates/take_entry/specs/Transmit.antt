@@ -1,5 +1,5 @@
 -- What taking one entry puts into the buffer and marks in the records: the model's step on the outgoing store that is seen.
-use Rattle.std.specs.Prelude.{ℕ, ◌+◌, ◌*◌, ◌%◌, ◌^◌, ◌≤◌, ◌<◌, ◌≡◌, List, [], ◌∷◌, Bool, true, cond, ◌&&◌, leb, ltb, length, take, drop}
+use Rattle.std.specs.Prelude.{ℕ, ◌+◌, ◌*◌, ◌%◌, ◌^◌, ◌≤◌, ◌<◌, ◌≡◌, List, [], ◌∷◌, Bool, true, cond, ◌&&◌, leb, ltb, length, take, drop, Some}
 use Rattle.model.specs.Lists.{Bytes, joined, on}
 use Rattle.model.specs.Slots.{Slots, ceiling, get, insert}
 use Rattle.model.specs.Stream as model
@@ -22,7 +22,7 @@ pub record TransmitBounds (p : Sent) (transmits : ℕ) : Type 0 where
 -- 01, call 5: "that packet gets time sent = clock of that drive and one transmit more"
 abbrev pub taken_packet : Sent → ℕ → Sent
 taken_packet p clock =
-    record { number = p.number; length = p.length; transmits = p.transmits + 1; waiting = p.waiting; timed = true; sent_at = nanos clock }
+    record { number = p.number; length = p.length; transmits = p.transmits + 1; waiting = p.waiting; sent_at = Some (nanos clock) }
 
 -- a state packet's bytes are put
 pub record TakesState (p : Progress) (headers buf : Bytes) (r : Progress) (buf' : Bytes) : Type 0 where

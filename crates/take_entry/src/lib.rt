@@ -22,12 +22,7 @@ pub struct Progress {
 pub fn there(s: Sender, p: Sent, n: u32) -> bool
     ensures { result ≡ (leb s.remote_acked n && (ltb n s.seq && is_stored p n)) }
 {
-    if s.remote_acked <= n {
-        if n < s.seq {
-            return records::is_stored(p, n);
-        }
-    }
-    false
+    s.remote_acked <= n && n < s.seq && records::is_stored(p, n)
 }
 
 // The socket driver's mark: the time sent is the drive's clock, and there is one more transmit.
@@ -36,12 +31,9 @@ fn taken_packet(p: Sent, drive: Nanos) -> Sent
     ensures { result ≡ taken_packet p drive.0 }
 {
     Sent {
-        number: p.number,
-        length: p.length,
         transmits: p.transmits + 1,
-        waiting: p.waiting,
-        timed: true,
-        sent_at: drive,
+        sent_at: Some(drive),
+        ..p
     }
 }
 
@@ -71,14 +63,12 @@ fn take_packet(
     ensures { TakesPacket p packet drive.0 sent.old outgoing.now buf.old result
         sent.new buf.new }
 {
-    let end = p.at + packet.length as usize;
-    let next = taken_packet(packet, drive);
-    records::put_sent(sent, next);
+    records::put_sent(sent, taken_packet(packet, drive));
     let part = records_stores::packet_bytes(outgoing, packet.number, packet.length);
     records_stores::put_at(buf, p.at, part);
     Progress {
-        at: end,
-        place: p.place,
+        at: p.at + packet.length as usize,
+        ..p
     }
 }
 

@@ -1,9 +1,9 @@
 -- What this crate's functions promise: what taking entries puts into the buffer and marks in the records, the queue after it, and the next
 -- datagram. Each promise is about the model's end that is seen of the records (`seen`), for any stream with the numbers, words and stores
 -- that the function is given.
-use Rattle.std.specs.Prelude.{ℕ, zero, suc, ◌+◌, ◌-◌, ◌%◌, ◌^◌, ◌≤◌, ◌<◌, ◌≡◌, List, [], ◌∷◌, ◌++◌, true, cond, eqb, ltb, length, take}
-use Rattle.model.specs.Lists.{Bytes, joined}
-use Rattle.model.specs.Slots.{Slots, ceiling}
+use Rattle.std.specs.Prelude.{ℕ, zero, suc, ◌+◌, ◌-◌, ◌%◌, ◌^◌, ◌≤◌, ◌<◌, ◌≡◌, List, [], ◌∷◌, ◌++◌, true, cond, eqb, ltb, length, take, Option, None, Some}
+use Rattle.model.specs.Lists.{Bytes, joined, on}
+use Rattle.model.specs.Slots.{Slots, ceiling, get}
 use Rattle.model.specs.Stream as model
 use Rattle.model.specs.Rules.{rules}
 use Rattle.model.specs.Driving.{head_length, batch, take_loop, taken_from, first_there, look}
@@ -12,12 +12,12 @@ use Rattle.records.specs.declared.Queue.{Queue}
 use Rattle.records.specs.declared.Stream.{Stream}
 use Rattle.records.specs.declared.Totals.{Totals}
 use Rattle.records_words.specs.Words.{sent_in, is_stored}
-use Rattle.records.specs.Cut.{cut, outgoing_slot, header_slot}
 use Rattle.records.specs.Put.{put}
 use Rattle.records.specs.Seen.{seen_queue, entry_words, Lent, seen, state_words, QueueFormed}
 use Rattle.take_next.specs.declared.Handed.{Handed}
 use Rattle.take_entry.specs.declared.Progress.{Progress}
-use Rattle.take_next.specs.declared.Next.{Next}
+use Rattle.take_next.specs.declared.Shown.{Shown}
+use Rattle.take_next.specs.declared.Shown.TheVariants.{State, Stored}
 use Rattle.take_entry.specs.Transmit.{TransmitBounds, TakenFromStore, send_entry, store_seen}
 
 -- the records that a function is given
@@ -114,12 +114,12 @@ pub record Sendable (q : Queue) (s : Sender) (segments clock : ℕ) (sent queue 
   pub drive : clock < 2 ^ 60
   pub room : 14_000 ≤ length buf
 
--- 01, call 5: "with segment size unless it has one entry"; 0 where a batch has none
-abbrev pub segment_size : (entries size : ℕ) → ℕ
-segment_size entries size = cond (eqb entries 1) 0 size
+-- 01, call 5: "with segment size unless it has one entry"
+abbrev pub segment_size : (entries size : ℕ) → Option ℕ
+segment_size entries size = cond (eqb entries 1) None (Some size)
 
 -- the next batch of an end e, which becomes e': what is put, its count, its segment size and the end are the model's
-pub record HandedOut (e e' : model.End) (buf : Bytes) (count segment : ℕ) (buf' : Bytes) : Type 0 where
+pub record HandedOut (e e' : model.End) (buf : Bytes) (count : ℕ) (segment : Option ℕ) (buf' : Bytes) : Type 0 where
   pub took : Took (batch e) e e' buf count buf'
   pub size : segment ≡ segment_size (batch e) (head_length e.queue.entries)
 
@@ -137,15 +137,17 @@ pub record HandsOut (q : Queue) (s : Sender) (segments clock : ℕ) (sent queue 
 abbrev pub next_seen : Queue → Sender → List ℕ → List ℕ → Bytes → Bytes → Bytes
 next_seen q s sent queue outgoing headers = cond (ltb 0 q.left) (first_there (store_seen s sent outgoing) (seen_queue q queue headers).entries) []
 
--- the bytes of the search's answer
-abbrev pub next_bytes : Bytes → Bytes → Next → Bytes
-next_bytes outgoing headers x =
-    cond x.state (cut header_slot headers x.number 20) (cut outgoing_slot outgoing (x.number % ceiling) x.length)
+-- where that datagram is, like the model's `first_there`; `place` is the first state packet's in the header store
+abbrev pub first_shown : Slots model.Packet → (place : ℕ) → List model.Entry → Option Shown
+first_shown outgoing place [] = None
+first_shown outgoing place (model.state b ∷ q) = Some (State place)
+first_shown outgoing place (model.packet n l ∷ q) = on (get outgoing n) (first_shown outgoing place q) (λ p. Some (Stored n (length p.bytes)))
 
-pub record Finds (q : Queue) (s : Sender) (sent queue : List ℕ) (r : Next) : Type 0 where
-  pub shown : (outgoing headers : Bytes) → next_bytes outgoing headers r ≡ next_seen q s sent queue outgoing headers
-  pub place : r.state ≡ true → r.number < 64
-  pub short : r.length ≤ 1_400
+-- what the search finds, whatever the stores, since none is lent to it
+abbrev pub Finds : Queue → Sender → (sent queue : List ℕ) → Option Shown → Type 0
+Finds q s sent queue r =
+    (outgoing headers : Bytes)
+    → r ≡ cond (ltb 0 q.left) (first_shown (store_seen s sent outgoing) q.gone (seen_queue q queue headers).entries) None
 
 pub record ShowsNext (q : Queue) (s : Sender) (sent queue : List ℕ) (outgoing headers shown : Bytes) : Type 0 where
   pub next : shown ≡ next_seen q s sent queue outgoing headers

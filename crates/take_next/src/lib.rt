@@ -5,7 +5,6 @@
 ghost use Rattle.std.specs.Prelude.{◌≡◌, ◌≤◌, length};
 ghost use Rattle.records.specs.Seen.{QueueFormed};
 ghost use Rattle.take_next.specs.Take.{
-  AllTransmitBounds,
   TakeRules,
   CanTake,
   Takes,
@@ -17,8 +16,8 @@ ghost use Rattle.take_next.specs.Take.{
   ShowsNext,
 };
 
-use constants::{QUEUE_WORDS, SENT_WORDS, UDX_HEADER_SIZE};
-use records::{Queue, Sender, expose_length};
+use constants::{QUEUE_WORDS, SENT_WORDS};
+use records::{Queue, Sender};
 use rtt::Nanos;
 use take_batch::{batch, head_length, left_entry};
 use take_entry::{Progress, there, transmit};
@@ -42,17 +41,13 @@ fn to_transmit(
     ensures { Takes q s k drive.0 sent.old queue.now outgoing.now
         headers.now buf.old result sent.new buf.new }
 {
-    expose_length(queue);
-    expose_length(sent);
     let mut p = Progress {
         at: 0,
         place: q.gone,
     };
-    let mut i: u32 = 0;
-    while i < k {
+    for i in 0..k {
         let x = left_entry(q, queue, i);
         p = transmit(s, x, p, drive, sent, outgoing, headers, buf);
-        i += 1;
     }
     p
 }
@@ -73,10 +68,9 @@ fn taken_queue(q: Queue, k: u32, place: u32) -> Queue
         };
     }
     Queue {
-        count: q.count,
-        left: left,
-        states: q.states,
+        left,
         gone: place,
+        ..q
     }
 }
 
@@ -87,15 +81,19 @@ pub struct Handed {
     pub queue: Queue,
     // The number of its bytes, which are at the front of the buffer.
     pub count: usize,
-    // Its segment size, 0 where it has none.
-    pub segment: usize,
+    // Its segment size, none if it has one entry.
+    pub segment: Option<usize>,
 }
 
 // "with segment size unless it has one entry"
-fn segment(entries: u32, size: u32) -> usize
+fn segment(entries: u32, size: u32) -> Option<usize>
     ensures { result ≡ segment_size entries size }
 {
-    if entries == 1 { 0 } else { size as usize }
+    if entries == 1 {
+        None
+    } else {
+        Some(size as usize)
+    }
 }
 
 // The next batch (poll_transmit): its bytes with their marks, its segment size, and the queue without it.
@@ -117,60 +115,52 @@ pub fn next_batch(
     let k = batch(q, segments, queue);
     let head = head_length(q, queue);
     let p = to_transmit(q, s, k, drive, sent, queue, outgoing, headers, buf);
-    let rest = taken_queue(q, k, p.place);
-    let size = segment(k, head);
     Handed {
-        queue: rest,
+        queue: taken_queue(q, k, p.place),
         count: p.at,
-        segment: size,
+        segment: segment(k, head),
     }
 }
 
 // look
 
-// Where a datagram is: at place `number` of the header store, or in the slot of packet `number`, with `length` bytes; 0 for none.
+// Where the bytes of a datagram are.
 #[derive(Clone, Copy)]
-struct Next {
-    state: bool,
-    number: u32,
-    length: u32,
+pub enum Shown {
+    // A state packet's, at this place of the header store.
+    State(u32),
+    // A stored packet's: the first `length` bytes of its slot of the outgoing store.
+    Stored { number: u32, length: u32 },
 }
 
 // The first entry left to take whose packet is there. A state packet always is, so the search passes none, and finds the first one queued,
 // whose place is `gone`.
-fn next_entry(q: Queue, s: Sender, sent: &[u64; SENT_WORDS], queue: &[u64; QUEUE_WORDS]) -> Next
-    requires { QueueFormed q queue.now × AllTransmitBounds s sent.now 7 }
+pub fn next_shown(
+    q: Queue,
+    s: Sender,
+    sent: &[u64; SENT_WORDS],
+    queue: &[u64; QUEUE_WORDS],
+) -> Option<Shown>
+    requires { QueueFormed q queue.now }
     ensures { Finds q s sent.now queue.now result }
 {
-    expose_length(queue);
-    let mut n: u32 = 0;
-    while n < q.left {
+    for n in 0..q.left {
         let x = left_entry(q, queue, n);
         if x.state {
-            return Next {
-                state: true,
-                number: q.gone,
-                length: UDX_HEADER_SIZE as u32,
-            };
+            return Some(Shown::State(q.gone));
         }
         let p = records::get_sent(sent, x.number);
         if there(s, p, x.number) {
-            return Next {
-                state: false,
+            return Some(Shown::Stored {
                 number: x.number,
                 length: p.length,
-            };
+            });
         }
-        n += 1;
     }
-    Next {
-        state: false,
-        number: 0,
-        length: 0,
-    }
+    None
 }
 
-// The next datagram, as a part of the store that holds it; the empty part &outgoing[..0] if none is left.
+// The next datagram, as a part of the store that holds it; an empty part if none is left.
 pub fn look_next<'a>(
     q: Queue,
     s: Sender,
@@ -183,9 +173,11 @@ pub fn look_next<'a>(
     ensures { ShowsNext q s sent.now queue.now outgoing.now
         headers.now result.now }
 {
-    let x = next_entry(q, s, sent, queue);
-    if x.state {
-        return records_stores::header_bytes(headers, x.number);
+    match next_shown(q, s, sent, queue) {
+        None => &outgoing[0..0],
+        Some(Shown::State(place)) => records_stores::header_bytes(headers, place),
+        Some(Shown::Stored { number, length }) => {
+            records_stores::packet_bytes(outgoing, number, length)
+        }
     }
-    records_stores::packet_bytes(outgoing, x.number, x.length)
 }

@@ -1,7 +1,7 @@
 -- The invariant of a write's loop on the records (`Going`): what went, joined to what the model does with the bytes left, is what it does
 -- with all of them. It holds before the first piece, a sent piece keeps it, and where the loop stops the model's stops too. The bounds grow
 -- with the number of packets, which is at most 32.
-use Prim.Native.Nat.{ℕ, ◌+◌, ◌-◌, ◌*◌, ◌%◌, ◌≤◌, ◌<◌, min}
+use Prim.Native.Nat.{ℕ, ◌+◌, ◌-◌, ◌*◌, ◌%◌, ◌≤◌, ◌<◌}
 use native.Mathlib.Nat.{add-zero, zero-add}
 use native.Mathlib.Omega.{arith}
 use native.Mathlib.Decide.{ℕ_discrete}
@@ -9,7 +9,8 @@ use mathlib.Core.Path.{◌≡◌, refl, ap, ap₂, sym, ◌∙◌}
 use mathlib.Core.List.{List}
 use mathlib.Core.Bool.{true, false, ◌&&◌}
 use lib.Dec.{leb, ltb}
-use lib.ListN.{length, take, drop, length-drop}
+use lib.ListN.{length, drop, length-drop}
+use lib.Seq.{drop-drop}
 use borrow.Author.Tests.{ltb-true}
 use Rattle.model.specs.Lists.{Bytes}
 use Rattle.model.specs.Slots.{ceiling}
@@ -28,7 +29,7 @@ use Rattle.write_piece.specs.declared.Outbox.{Outbox}
 use Rattle.write_piece.specs.Piece.{may_go, Room, SendsPiece}
 use Rattle.write_piece.specs.Piece.{with_outbox, with_outbox_lent}
 use Rattle.write_all.specs.Write.{Ready, Writes}
-use Rattle.write_all.proofs.WriteLoop.{write_all, joined, all_empty, all_stop, all_turn, piece_is, piece_length, rest_is}
+use Rattle.write_all.proofs.WriteLoop.{write_all, joined, all_empty, all_stop, all_turn, Cuts, after_piece, piece_is, rest_is}
 use Rattle.write_piece.proofs.SentPiece.{piece_seen, piece_formed, sent_length, queue_length, store_length, size_here, size_other, beyond_here, beyond_elsewhere}
 
 -- what is seen of a stream with the numbers of an outbox
@@ -108,22 +109,22 @@ module _ {remote ack : ℕ} {bytes : Bytes} {o₀ : Outbox} {sent₀ queue₀ ou
           ap (λ (n : ℕ). record { count = n; end = seen_of o sent queue outgoing s l }) (sym (add-zero at)) ∙ ap (joined at) (sym (nothing s l)) ∙ g.same s l p q
 
   -- no byte is left
-  pub ends_empty : length bytes ≤ at → Writes o₀ remote ack bytes sent₀ queue₀ outgoing₀ (record { outbox = o; count = at }) sent queue outgoing
-  ends_empty h = over (λ s l. all_empty (drop at bytes) (seen_of o sent queue outgoing s l) (rw length-drop (omega arith))) (λ m. absurd (omega arith))
+  pub ends_empty : length (drop at bytes) ≡ 0 → Writes o₀ remote ack bytes sent₀ queue₀ outgoing₀ (record { outbox = o; count = at }) sent queue outgoing
+  ends_empty h = over (λ s l. all_empty (drop at bytes) (seen_of o sent queue outgoing s l) (omega arith)) (λ m. absurd (omega (arith, length-drop at bytes)))
 
-  module _ (more : at < length bytes) {k : ℕ} (is : k ≡ min (length bytes - at) 1_380) where
-    tested : goes (piece (drop at bytes)) (seen_sender o.sender sent outgoing) ≡ may_go o.sender k
-    tested = goes_is o.sender sent outgoing (piece (drop at bytes)) k (piece_length bytes at k is)
+  module _ {p rest : Bytes} (cut : Cuts (drop at bytes) p rest) where
+    tested : goes (piece (drop at bytes)) (seen_sender o.sender sent outgoing) ≡ may_go o.sender (length p)
+    tested = goes_is o.sender sent outgoing (piece (drop at bytes)) (length p) (ap length (sym (piece_is cut)))
 
     -- the next piece does not go
-    pub ends_full : may_go o.sender k ≡ false → Writes o₀ remote ack bytes sent₀ queue₀ outgoing₀ (record { outbox = o; count = at }) sent queue outgoing
+    pub ends_full : may_go o.sender (length p) ≡ false → Writes o₀ remote ack bytes sent₀ queue₀ outgoing₀ (record { outbox = o; count = at }) sent queue outgoing
     unfolding seen
     ends_full shut = over (λ s l. all_stop (drop at bytes) (seen_of o sent queue outgoing s l) (tested ∙ shut)) (λ m. tested ∙ shut)
 
     -- it goes
-    module _ (free : may_go o.sender k ≡ true) where
+    module _ (free : may_go o.sender (length p) ≡ true) where
       numbers : (ltb (o.sender.seq - o.sender.remote_acked) 32 && ltb o.sender.seq 4_294_967_295) ≡ true
-      numbers = and_right (leb (o.sender.inflight + k) o.sender.cwnd) (ltb (o.sender.seq - o.sender.remote_acked) 32 && ltb o.sender.seq 4_294_967_295) free
+      numbers = and_right (leb (o.sender.inflight + length p) o.sender.cwnd) (ltb (o.sender.seq - o.sender.remote_acked) 32 && ltb o.sender.seq 4_294_967_295) free
 
       few : o.sender.seq - o.sender.remote_acked < 32
       few = ltb-true _ _ (and_left (ltb (o.sender.seq - o.sender.remote_acked) 32) (ltb o.sender.seq 4_294_967_295) numbers)
@@ -131,14 +132,17 @@ module _ {remote ack : ℕ} {bytes : Bytes} {o₀ : Outbox} {sent₀ queue₀ ou
       below : o.sender.seq < 4_294_967_295
       below = ltb-true _ _ (and_right (ltb (o.sender.seq - o.sender.remote_acked) 32) (ltb o.sender.seq 4_294_967_295) numbers)
 
-      part_length : length (take (at + k - at) (drop at bytes)) ≡ k
-      part_length = ap length (piece_is bytes at k is) ∙ piece_length bytes at k is
+      short : length p ≤ 1_380
+      short = omega (arith, cut.size)
 
-      pub roomy : Room o (length outgoing) (length (take (at + k - at) (drop at bytes)))
+      pub next_rest : rest ≡ drop (at + length p) bytes
+      next_rest = sym (after_piece cut) ∙ drop-drop (length p) at bytes
+
+      pub roomy : Room o (length outgoing) (length p)
       roomy =
           record {
             whole = g.whole;
-            short = omega (arith, part_length);
+            short = short;
             seq = below;
             inflight = omega (arith, few, g.inflight);
             queue = omega (arith, few, g.queued);
@@ -147,34 +151,33 @@ module _ {remote ack : ℕ} {bytes : Bytes} {o₀ : Outbox} {sent₀ queue₀ ou
           }
 
       module _ {r : Outbox} {sent' queue' outgoing' : List ℕ}
-          (x : SendsPiece o remote ack (take (at + k - at) (drop at bytes)) sent queue outgoing r sent' queue' outgoing') where
+          (x : SendsPiece o remote ack p sent queue outgoing r sent' queue' outgoing') where
         turn : (s : Stream) (l : Lent) → s.ids.remote ≡ remote → s.receiver.ack ≡ ack
-            → joined (at + k) (write_all (drop (at + k) bytes) (seen_of r sent' queue' outgoing' s l)) ≡ joined at (write_all (drop at bytes) (seen_of o sent queue outgoing s l))
+            → joined (at + length p) (write_all (drop (at + length p) bytes) (seen_of r sent' queue' outgoing' s l)) ≡ joined at (write_all (drop at bytes) (seen_of o sent queue outgoing s l))
         unfolding seen
-        turn s l p q =
+        turn s l u v =
             let e = seen_of o sent queue outgoing s l in
-            let some : 0 < length (drop at bytes) = rw length-drop (omega arith) in
-            ap₂ (λ (b : Bytes) (y : End). joined (at + k) (write_all b y)) (rest_is bytes at k is)
-            (piece_seen x roomy g.sent_long g.queue_long g.acked g.rest s l p q ∙ ap (λ (b : Bytes). send_data_packet b e) (piece_is bytes at k is))
-            ∙ all_turn (drop at bytes) e at k some (tested ∙ free) (piece_length bytes at k is)
+            ap₂ (λ (b : Bytes) (y : End). joined (at + length p) (write_all b y)) (sym next_rest ∙ rest_is cut)
+            (piece_seen x roomy g.sent_long g.queue_long g.acked g.rest s l u v ∙ ap (λ (b : Bytes). send_data_packet b e) (piece_is cut))
+            ∙ all_turn (drop at bytes) e at (length p) cut.some (tested ∙ free) (ap length (sym (piece_is cut)))
 
         -- the packet's slot was untouched so far; the other slots do not change
         stays : Stay outgoing_slot (sent_size sent') outgoing₀ outgoing'
         stays i l = at_slot (ℕ_discrete i (o.sender.seq % ceiling))
           where
-            here : sent_size sent' (o.sender.seq % ceiling) ≡ length (take (at + k - at) (drop at bytes)) + 20
+            here : sent_size sent' (o.sender.seq % ceiling) ≡ length p + 20
             here = size_here x roomy g.sent_long g.queue_long g.acked g.rest
 
             at_slot : Dec (i ≡ o.sender.seq % ceiling) → beyond outgoing_slot outgoing' i (sent_size sent' i) ≡ beyond outgoing_slot outgoing₀ i (sent_size sent' i)
             at_slot (yes e) =
                 rw (e, here)
                 (beyond_here x roomy g.sent_long g.queue_long g.acked g.rest
-                ∙ g.untouched o.sender.seq (omega arith) (omega (arith, few)) (length (take (at + k - at) (drop at bytes)) + 20))
+                ∙ g.untouched o.sender.seq (omega arith) (omega (arith, few)) (length p + 20))
             at_slot (no ne) =
                 rw (size_other x roomy g.sent_long g.queue_long g.acked g.rest i l ne)
                 (beyond_elsewhere x roomy g.sent_long g.queue_long g.acked g.rest i (sent_size sent i) ne ∙ g.beside i l)
 
-        pub again : Going remote ack bytes o₀ sent₀ queue₀ outgoing₀ r sent' queue' outgoing' (at + k)
+        pub again : Going remote ack bytes o₀ sent₀ queue₀ outgoing₀ r sent' queue' outgoing' (at + length p)
         again =
             let seq = ap (λ (s : Sender). s.seq) x.numbers in
             let acked = ap (λ (s : Sender). s.remote_acked) x.numbers in
@@ -182,8 +185,9 @@ module _ {remote ack : ℕ} {bytes : Bytes} {o₀ : Outbox} {sent₀ queue₀ ou
             let count = ap (λ (q : Queue). q.count) x.places in
             let packets = ap (λ (t : Totals). t.inflight_packets) x.totals in
             let payloads = ap (λ (t : Totals). t.inflight_bytes) x.totals in
-            let size = part_length in
+            let part = short in
             let near = few in
+            let left = length-drop at bytes in
             record {
               within = omega arith;
               sent_long = sent_length x roomy g.sent_long g.queue_long g.acked g.rest;

@@ -1,14 +1,14 @@
 -- The model's loop of a write without its fuel (`write_all`): any fuel that covers the bytes gives the same, since each iteration takes a
--- byte or more. It stops where no byte is left or the next piece does not go, and otherwise sends that piece and continues. The piece that
--- the code cuts is the model's.
-use Prim.Native.Nat.{ℕ, zero, suc, ◌+◌, ◌-◌, ◌≤◌, ◌<◌, min}
+-- byte or more. It stops where no byte is left or the next piece does not go, and otherwise sends that piece and continues. A chunk of
+-- 1,380 bytes is the model's piece (`piece_is`).
+use Prim.Native.Nat.{ℕ, zero, suc, ◌+◌, ◌≤◌, ◌<◌, min}
 use native.Mathlib.Omega.{arith}
 use mathlib.Core.Path.{◌≡◌, refl, ap, sym, ◌∙◌}
-use mathlib.Core.List.{[], ◌∷◌}
+use mathlib.Core.List.{[], ◌∷◌, ◌++◌}
 use mathlib.Core.Bool.{Bool, true, false, cond, ◌&&◌, not}
 use lib.Dec.{leb}
-use lib.ListN.{length, take, drop, length-take, length-drop, drop_of_length-le}
-use lib.Seq.{drop-drop, take-length, take_all, drop-length}
+use lib.ListN.{length, take, drop, length-drop, drop_of_length-le}
+use lib.Seq.{take-length, take_all, drop-length, take-append_seam, drop-append_seam}
 use borrow.Author.Tests.{leb-true, leb-false}
 use Rattle.model.specs.Lists.{Bytes, is_empty}
 use Rattle.model.specs.Stream.{End}
@@ -72,46 +72,51 @@ all_turn (b ∷ bytes) e n k l g z =
     rw g (ap (joined (n + k)) (enough (length rest) (length bytes) rest e' (omega arith) (rest_less (b ∷ bytes) (length bytes) (omega arith)))
     ∙ ap (λ (i : ℕ). record { count = i; end = w.end }) m)
 
--- the piece as the code cuts it: as many bytes as are left, at most 1,380
+-- a chunk of some bytes, and the bytes after it
+pub record Cuts (bytes p rest : Bytes) : Type 0 where
+  pub parts : bytes ≡ p ++ rest
+  pub size : length p ≡ min 1_380 (length bytes)
+  pub some : 0 < length bytes
 
-module _ (z : ℕ) (bytes : Bytes) where
-  take_least : take (min (length bytes) z) bytes ≡ take z bytes
-  take_least = go (leb (length bytes) z) refl
+-- what an iterator over chunks of 1,380 bytes gives where `left` is left to it
+pub chunk_cuts : {left bytes p rest : Bytes} {size : ℕ} → left ≡ bytes → size ≡ 1_380 → left ≡ p ++ rest → length p ≡ min size (length left) → 0 < length left
+    → Cuts bytes p rest
+chunk_cuts {left} {bytes} {p} {rest} {size} e z parts l some =
+    let n = ap length e in
+    record { parts = sym e ∙ parts; size = omega arith; some = omega arith }
+
+-- it is the model's piece, and the rest is what the model goes on with
+
+module _ {bytes p rest : Bytes} (c : Cuts bytes p rest) where
+  pub after_piece : drop (length p) bytes ≡ rest
+  after_piece = ap (drop (length p)) c.parts ∙ drop-append_seam p rest
+
+  front : p ≡ take (length p) bytes
+  front = sym (ap (take (length p)) c.parts ∙ take-append_seam p rest)
+
+  pub piece_is : p ≡ piece bytes
+  piece_is = go (leb 1_380 (length bytes)) refl
     where
-      go : (b : Bool) → leb (length bytes) z ≡ b → take (min (length bytes) z) bytes ≡ take z bytes
+      go : (b : Bool) → leb 1_380 (length bytes) ≡ b → p ≡ piece bytes
       go true e =
-          let h : length bytes ≤ z = leb-true _ _ e in
-          let m : min (length bytes) z ≡ length bytes = omega arith in
-          rw (m, take-length) (sym (take_all z bytes h))
+          let h : 1_380 ≤ length bytes = leb-true _ _ e in
+          let n : length p ≡ 1_380 = omega (arith, c.size) in
+          front ∙ ap (λ (k : ℕ). take k bytes) n
       go false e =
-          let h : z < length bytes = leb-false _ _ e in
-          let m : min (length bytes) z ≡ z = omega arith in
-          rw m
+          let h : length bytes < 1_380 = leb-false _ _ e in
+          let n : length p ≡ length bytes = omega (arith, c.size) in
+          front ∙ ap (λ (k : ℕ). take k bytes) n ∙ take-length bytes ∙ sym (take_all 1_380 bytes (omega arith))
 
-  drop_least : drop (min (length bytes) z) bytes ≡ drop z bytes
-  drop_least = go (leb (length bytes) z) refl
+  pub rest_is : rest ≡ drop 1_380 bytes
+  rest_is = go (leb 1_380 (length bytes)) refl
     where
-      go : (b : Bool) → leb (length bytes) z ≡ b → drop (min (length bytes) z) bytes ≡ drop z bytes
+      go : (b : Bool) → leb 1_380 (length bytes) ≡ b → rest ≡ drop 1_380 bytes
       go true e =
-          let h : length bytes ≤ z = leb-true _ _ e in
-          let m : min (length bytes) z ≡ length bytes = omega arith in
-          rw (m, drop-length) (sym (drop_of_length-le bytes h))
+          let h : 1_380 ≤ length bytes = leb-true _ _ e in
+          let n : length p ≡ 1_380 = omega (arith, c.size) in
+          sym after_piece ∙ ap (λ (k : ℕ). drop k bytes) n
       go false e =
-          let h : z < length bytes = leb-false _ _ e in
-          let m : min (length bytes) z ≡ z = omega arith in
-          rw m
-
-module _ (bytes : Bytes) (at k : ℕ) (is : k ≡ min (length bytes - at) 1_380) where
-  size_is : k ≡ min (length (drop at bytes)) 1_380
-  size_is = simp length-drop is
-
-  pub piece_is : take (at + k - at) (drop at bytes) ≡ piece (drop at bytes)
-  piece_is =
-      let e : at + k - at ≡ k = omega arith in
-      ap (λ (n : ℕ). take n (drop at bytes)) (e ∙ size_is) ∙ take_least 1_380 (drop at bytes)
-
-  pub piece_length : length (piece (drop at bytes)) ≡ k
-  piece_length = rw (length-take, length-drop) (omega arith)
-
-  pub rest_is : drop (at + k) bytes ≡ drop 1_380 (drop at bytes)
-  rest_is = sym (drop-drop k at bytes) ∙ ap (λ (n : ℕ). drop n (drop at bytes)) size_is ∙ drop_least 1_380 (drop at bytes)
+          let h : length bytes < 1_380 = leb-false _ _ e in
+          let n : length p ≡ length bytes = omega (arith, c.size) in
+          let m : length bytes ≤ 1_380 = omega arith in
+          sym after_piece ∙ ap (λ (k : ℕ). drop k bytes) n ∙ drop-length bytes ∙ sym (drop_of_length-le bytes m)

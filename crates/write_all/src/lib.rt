@@ -5,7 +5,6 @@ ghost use Rattle.std.specs.Prelude.{length};
 ghost use Rattle.write_all.specs.Write.{Ready, Writes};
 
 use constants::{QUEUE_WORDS, SENT_WORDS, UDX_MAX_DATA_SIZE};
-use records::{expose_length, least};
 pub use write_piece::Outbox;
 use write_piece::{goes, send_data_packet};
 
@@ -30,25 +29,14 @@ pub fn write_pieces(
     ensures { Writes o remote ack bytes.now sent.old queue.old
         outgoing.old result sent.new queue.new outgoing.new }
 {
-    expose_length(sent);
-    expose_length(queue);
     let mut out = o;
-    let mut at: usize = 0;
-    while at < bytes.len() {
-        let k = least(bytes.len() - at, UDX_MAX_DATA_SIZE);
-        if goes(out.sender, k) {
-            let end = at + k;
-            out = send_data_packet(out, remote, ack, sent, queue, outgoing, &bytes[at..end]);
-            at = end;
-        } else {
-            return Written {
-                outbox: out,
-                count: at,
-            };
+    let mut count = 0;
+    for piece in bytes.chunks(UDX_MAX_DATA_SIZE) {
+        if !goes(out.sender, piece.len()) {
+            return Written { outbox: out, count };
         }
+        out = send_data_packet(out, remote, ack, sent, queue, outgoing, piece);
+        count += piece.len();
     }
-    Written {
-        outbox: out,
-        count: at,
-    }
+    Written { outbox: out, count }
 }

@@ -48,7 +48,7 @@ module _ {o r : Outbox} {remote ack : ℕ} {piece sent queue outgoing sent' queu
     (sent_long : length sent ≡ 64) (queue_long : length queue ≡ 128) (acked : o.sender.remote_acked ≤ o.sender.seq) (rest : o.queue.left ≡ 0) where
   back : sent_of (sent_word (new_packet o.sender.seq (length piece))) (sent_time (new_packet o.sender.seq (length piece))) ≡ new_packet o.sender.seq (length piece)
   back =
-      sent_back (new_packet o.sender.seq (length piece)) (omega (arith, room.short)) (omega arith) (omega (arith, room.seq)) (omega arith) (λ e. refl)
+      sent_back (new_packet o.sender.seq (length piece)) (omega (arith, room.short)) (omega arith) (omega (arith, room.seq)) (λ t e. absurd (cc))
 
   entry_said : entry_of (entry_word (new_entry o.sender.seq (length piece))) ≡ new_entry o.sender.seq (length piece)
   entry_said = entry_back (new_entry o.sender.seq (length piece)) (omega (arith, room.short)) (omega (arith, room.seq))

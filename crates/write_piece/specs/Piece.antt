@@ -1,9 +1,8 @@
 -- Sending one piece on the records: its header, its packet, its queue entry and the numbers after it; and a stream, and lent words and
 -- bytes, with these changes.
-use Rattle.std.specs.Prelude.{◌≡◌, ℕ, ◌+◌, ◌-◌, ◌*◌, ◌%◌, ◌^◌, ◌<◌, ◌≤◌, Bool, false, ◌&&◌, List, ◌++◌, length, nat_le, nat_lt, slice_set}
+use Rattle.std.specs.Prelude.{◌≡◌, ℕ, ◌+◌, ◌-◌, ◌*◌, ◌%◌, ◌^◌, ◌<◌, ◌≤◌, Bool, false, ◌&&◌, List, ◌++◌, length, nat_le, nat_lt, slice_set, None}
 use Rattle.packet.specs.declared.header.Header.{Header}
 use Rattle.packet.specs.Header.{header_bytes}
-use Rattle.rtt.specs.Estimate.{nanos}
 use Rattle.records_words.specs.declared.Sent.{Sent}
 use Rattle.records_words.specs.declared.Entry.{Entry}
 use Rattle.records.specs.declared.Sender.{Sender}
@@ -21,7 +20,7 @@ header_of typ remote seq ack =
     record { typ = typ; data_offset = 0; stream_id = remote; recv_win = 4_294_967_295; seq = seq; ack = ack }
 
 abbrev pub new_packet : (n payload : ℕ) → Sent
-new_packet n payload = record { number = n; length = payload + 20; transmits = 0; waiting = false; timed = false; sent_at = nanos 0 }
+new_packet n payload = record { number = n; length = payload + 20; transmits = 0; waiting = false; sent_at = None }
 
 abbrev pub new_entry : (n payload : ℕ) → Entry
 new_entry n payload = record { number = n; length = payload + 20; state = false }

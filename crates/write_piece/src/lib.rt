@@ -22,7 +22,6 @@ use constants::{
 };
 use packet::Header;
 use records::{Entry, Queue, Sender, Sent, Totals};
-use rtt::Nanos;
 
 const HEADER: u32 = UDX_HEADER_SIZE as u32;
 
@@ -58,8 +57,7 @@ fn new_packet(n: u32, payload: usize) -> Sent
         length: payload as u32 + HEADER,
         transmits: 0,
         waiting: false,
-        timed: false,
-        sent_at: Nanos(0),
+        sent_at: None,
     }
 }
 
@@ -81,10 +79,8 @@ fn sent_sender(s: Sender, payload: usize) -> Sender
 {
     Sender {
         seq: s.seq + 1,
-        remote_acked: s.remote_acked,
-        largest_ack: s.largest_ack,
-        inflight: s.inflight + (payload as u32 + 20),
-        cwnd: s.cwnd,
+        inflight: s.inflight + (payload as u32 + HEADER),
+        ..s
     }
 }
 
@@ -94,9 +90,7 @@ fn pushed_queue(q: Queue) -> Queue
 {
     Queue {
         count: q.count + 1,
-        left: q.left,
-        states: q.states,
-        gone: q.gone,
+        ..q
     }
 }
 
@@ -106,12 +100,11 @@ fn counted_totals(t: Totals, payload: usize) -> Totals
 {
     let n = payload as u64;
     Totals {
-        tx_packets: std::num::wrapping_add_u64(t.tx_packets, 1),
-        tx_bytes: std::num::wrapping_add_u64(t.tx_bytes, n),
-        rx_packets: t.rx_packets,
-        rx_bytes: t.rx_bytes,
+        tx_packets: t.tx_packets.wrapping_add(1),
+        tx_bytes: t.tx_bytes.wrapping_add(n),
         inflight_packets: t.inflight_packets + 1,
         inflight_bytes: t.inflight_bytes + n,
+        ..t
     }
 }
 
@@ -120,11 +113,7 @@ fn payload_fits(inflight: u32, payload: usize, cwnd: u32) -> bool
     requires { payload ≤ 1_380 }
     ensures { result ≡ nat_le (inflight + payload) cwnd }
 {
-    if inflight <= cwnd {
-        payload as u32 <= cwnd - inflight
-    } else {
-        false
-    }
+    inflight <= cwnd && payload as u32 <= cwnd - inflight
 }
 
 // Whether a piece goes: send_data_packet's test, and 01's ceilings.
@@ -132,16 +121,9 @@ pub fn goes(s: Sender, payload: usize) -> bool
     requires { payload ≤ 1_380 }
     ensures { result ≡ may_go s payload }
 {
-    if payload_fits(s.inflight, payload, s.cwnd) {
-        if s.remote_acked <= s.seq {
-            if s.seq - s.remote_acked < STORE_SLOTS {
-                return s.seq < SEQ_END;
-            }
-            return false;
-        }
-        return s.seq < SEQ_END;
-    }
-    false
+    payload_fits(s.inflight, payload, s.cwnd)
+        && s.seq.saturating_sub(s.remote_acked) < STORE_SLOTS
+        && s.seq < SEQ_END
 }
 
 // Stores the packet of a piece: its bytes in the outgoing store, its record in the words (create_packet, outgoing.insert).
@@ -171,14 +153,10 @@ pub fn send_data_packet(
     let n = o.sender.seq;
     let h = create_header(UDX_HEADER_DATA, remote, n, ack);
     store_packet(sent, outgoing, h, piece);
-    let at = o.queue.count as usize;
-    records::put_entry(queue, at, new_entry(n, piece.len()));
-    let sender = sent_sender(o.sender, piece.len());
-    let q = pushed_queue(o.queue);
-    let totals = counted_totals(o.totals, piece.len());
+    records::put_entry(queue, o.queue.count as usize, new_entry(n, piece.len()));
     Outbox {
-        sender,
-        queue: q,
-        totals,
+        sender: sent_sender(o.sender, piece.len()),
+        queue: pushed_queue(o.queue),
+        totals: counted_totals(o.totals, piece.len()),
     }
 }

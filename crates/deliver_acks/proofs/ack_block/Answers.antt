@@ -4,4 +4,4 @@ use Rattle.deliver_acks.proofs.ack_block.Goals as goal
 
 pub returns : goal.returns
 returns c =
-    span_acked _ _ _ _ _ c.larger-from.ensures c.smaller-to.ensures c.ack_numbers.ensures
+    span_acked _ _ _ _ _ c.max-from.ensures c.min-to.ensures c.ack_numbers.ensures

@@ -1,9 +1,5 @@
-use Prim.Native.Nat.{◌-◌}
 use Rattle.deliver_acks.proofs.AckRun.{Running}
 use Rattle.deliver_acks.proofs.ack_numbers.Given as goal
 
 abbrev pub invariant-loop-n : goal.invariant-loop-n
-invariant-loop-n l = Running l.clock.0 l.initial.n l.to l.initial.b l.initial.sent l.b l.sent l.n
-
-abbrev pub decreases-loop-n : goal.decreases-loop-n
-decreases-loop-n l = l.to - l.n
+invariant-loop-n l = Running l.clock.0 l.from l.to l.initial.a l.initial.sent l.a l.sent l.n

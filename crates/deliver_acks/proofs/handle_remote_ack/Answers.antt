@@ -6,9 +6,9 @@ use Rattle.deliver_acks.proofs.handle_remote_ack.Goals as goal
 
 pub returns-then-is_stored : goal.returns-then-is_stored
 returns-then-is_stored c =
-    rw (c.acked_totals-totals.ensures, c.left_sender-sender.ensures)
+    rw (c.acked_totals.ensures, c.left_sender.ensures)
     (acks_stored _ _ _ _ (search rules) c.requires.1 c.get_sent-p.ensures
-    (sym c.is_stored.ensures ∙ c.if-is_stored.true) c.measured-rtt.ensures c.clear_sent.ensures)
+    (sym c.is_stored.ensures ∙ c.if-is_stored.true) c.measured.ensures c.clear_sent.ensures)
 
 pub returns : goal.returns
 returns c =

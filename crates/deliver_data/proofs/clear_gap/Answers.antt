@@ -1,4 +1,4 @@
--- `deliver_data::clear_gap` meets its contract. The loop's invariant is `Clearing`, up to the larger of top and n; the distance to n falls.
+-- `deliver_data::clear_gap` meets its contract. The loop's invariant is `Clearing`, up to the larger of top and n.
 use native.Mathlib.Omega.{arith}
 use Rattle.deliver_data.proofs.AbsorbLaws.{clear_turn}
 use Rattle.deliver_data.proofs.clear_gap.Goals as goal

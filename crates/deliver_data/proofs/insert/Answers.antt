@@ -12,4 +12,4 @@ returns c =
     (search rules)
     c.put_held.ensures
     c.put_payload.ensures
-    c.top_with-top.ensures
+    c.max.ensures

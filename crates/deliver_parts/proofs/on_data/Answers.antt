@@ -5,7 +5,7 @@ use Rattle.deliver_parts.proofs.on_data.Goals as goal
 
 pub returns-then-is_data : goal.returns-then-is_data
 returns-then-is_data c =
-    took _ _ _ _ _ _ _ _ (sym c.is_data.ensures ∙ c.if-is_data.true) c.absorb-receiver.ensures c.counted_data-counted.ensures c.send_state_packet-k.ensures
+    took (sym c.is_data.ensures ∙ c.if-is_data.true) c.absorb-receiver.ensures c.counted_data.ensures c.send_state_packet-k.ensures
 
 pub returns : goal.returns
-returns c = not_taken _ _ _ _ _ _ _ _ (sym c.is_data.ensures ∙ c.if-is_data.false) c.requires.0.whole
+returns c = not_taken (sym c.is_data.ensures ∙ c.if-is_data.false) c.requires.0.whole

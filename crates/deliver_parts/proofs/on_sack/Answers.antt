@@ -5,7 +5,7 @@ use Rattle.deliver_parts.proofs.on_sack.Goals as goal
 
 pub returns-then-is_sack : goal.returns-then-is_sack
 returns-then-is_sack c =
-    sacked _ _ _ _ _ _ (sym c.is_sack.ensures ∙ c.if-is_sack.true) c.handle_incoming_sacks-a.ensures
+    sacked (sym c.is_sack.ensures ∙ c.if-is_sack.true) c.handle_incoming_sacks-a.ensures
 
 pub returns : goal.returns
-returns c = unsacked _ _ _ _ _ _ (sym c.is_sack.ensures ∙ c.if-is_sack.false)
+returns c = unsacked (sym c.is_sack.ensures ∙ c.if-is_sack.false)

@@ -1,14 +1,12 @@
--- `drive_drain::drained` meets its contract: each exit is one of the three tests.
+-- `drive_drain::drained` meets its contract: each exit has decided the tests before it.
 use mathlib.Core.Path.{sym, ◌∙◌}
-use Rattle.drive_drain.proofs.Drain.{runs, queued, stored_or_not}
+use borrow.Author.Rules.{rules}
+use Rattle.drive_drain.proofs.Drain.{not_drained, stored_or_not}
 use Rattle.drive_drain.proofs.drained.Goals as goal
 
 pub returns-then-q-eq0 : goal.returns-then-q-eq0
 returns-then-q-eq0 c =
-    stored_or_not _ _ _ _ c.requires (sym c.is_set.ensures ∙ c.if-is_set.true) c.if-q-eq0.true _ c.any_stored-stored.ensures
+    stored_or_not _ _ _ _ c.requires (sym c.is_some.ensures ∙ c.if-q-eq0.true.0) c.if-q-eq0.true.1 _ c.any_stored.ensures
 
 pub returns-else-q-eq0 : goal.returns-else-q-eq0
-returns-else-q-eq0 c = queued _ _ _ _ c.requires c.if-q-eq0.false
-
-pub returns-else-is_set : goal.returns-else-is_set
-returns-else-is_set c = runs _ _ _ _ (sym c.is_set.ensures ∙ c.if-is_set.false)
+returns-else-q-eq0 c = not_drained _ _ _ _ c.requires (rw c.is_some.ensures at c.if-q-eq0.either) _ (search rules)

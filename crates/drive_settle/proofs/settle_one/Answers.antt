@@ -3,6 +3,4 @@ use Rattle.drive_settle.proofs.SettleOne.{settles_one}
 use Rattle.drive_settle.proofs.settle_one.Goals as goal
 
 pub returns : goal.returns
-returns c =
-    rw c.past_one-sender.ensures
-    (settles_one _ _ _ _ _ c.requires.1 c.handle_remote_ack-b.ensures)
+returns c = settles_one _ _ _ _ _ c.requires.1 c.handle_remote_ack-b.ensures

@@ -1,7 +1,8 @@
--- `drive_timer::backed_off` meets its contract: the callee's deadline is the model's.
+-- `drive_timer::backed_off` meets its contract: the deadline is the model's.
+use mathlib.Core.Path.{refl}
 use Rattle.model.specs.Driving.{backed_off}
 use Rattle.drive_timer.proofs.backed_off.Goals as goal
 
 pub returns : goal.returns
 unfolding backed_off
-returns c = c.with_deadline.ensures
+returns c = refl

@@ -1,9 +1,12 @@
--- `drive_timer::restarted` meets its contract: the picked deadline is the model's.
-use mathlib.Core.Path.{◌∙◌}
-use Rattle.drive_timer.proofs.TimerLaws.{restarted_is}
+-- `drive_timer::restarted` meets its contract: each branch is one of the model's.
+use mathlib.Core.Path.{refl}
+use Rattle.model.specs.Driving.{restarted}
 use Rattle.drive_timer.proofs.restarted.Goals as goal
 
-pub returns : goal.returns
-returns c =
-    let t = c.args.t in
-    c.with_deadline.ensures ∙ restarted_is _ _ t c.pick.result c.pick.ensures
+pub returns-then-moved : goal.returns-then-moved
+unfolding restarted
+returns-then-moved c = rw c.if-moved.true refl
+
+pub returns-else-moved : goal.returns-else-moved
+unfolding restarted
+returns-else-moved c = rw c.if-moved.false refl

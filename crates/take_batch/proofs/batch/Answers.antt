@@ -13,24 +13,20 @@ returns-then-entry_size-size c =
     let a = c.args in
     let p = c.requires in
     let long : length a.queue.now ≡ 128 = search rules in
-    batched a.q a.segments a.queue.now p.2 p.0 (omega arith) _ _ _ c.least-most.ensures
-    (c.entry_size-size.ensures ∙ ap entry_size c.left_entry.ensures) i.0
-    (same_ends _ _ _ _ _ i.1 (λ z. c.if-entry_size-size.true (c.entry_size.ensures ∙ ap entry_size c.left_entry-in-loop-k.ensures ∙ z)))
+    batched a.q a.segments a.queue.now p.2 p.0 (omega arith) _ _ _ c.min-most.ensures
+    (c.entry_size-size.ensures ∙ ap entry_size c.left_entry.ensures) (omega arith)
+    (same_ends _ _ _ _ _ i (λ z. c.if-entry_size-size.true (c.entry_size.ensures ∙ ap entry_size c.left_entry-in-loop-k.ensures ∙ z)))
 
 pub loop-k-preserved : goal.loop-k-preserved
 loop-k-preserved c =
-    let i = c.loop-k.invariant in (
-      search rules,
-      same_again _ _ _ _ _ i.1 c.loop-k-test.true
-          (sym (c.entry_size.ensures ∙ ap entry_size c.left_entry-in-loop-k.ensures) ∙ c.if-entry_size-size.false),
-    )
+    same_again _ _ _ _ _ c.loop-k.invariant c.loop-k-test.true
+    (sym (c.entry_size.ensures ∙ ap entry_size c.left_entry-in-loop-k.ensures) ∙ c.if-entry_size-size.false)
 
 pub returns : goal.returns
 returns c =
-    let i = c.loop-k.invariant in
     let a = c.args in
     let p = c.requires in
     let long : length a.queue.now ≡ 128 = search rules in
-    batched a.q a.segments a.queue.now p.2 p.0 (omega arith) _ _ _ c.least-most.ensures
-    (c.entry_size-size.ensures ∙ ap entry_size c.left_entry.ensures) i.0
-    (same_over _ _ _ _ _ i.1 c.loop-k-test.false)
+    batched a.q a.segments a.queue.now p.2 p.0 (omega arith) _ _ _ c.min-most.ensures
+    (c.entry_size-size.ensures ∙ ap entry_size c.left_entry.ensures) (omega arith)
+    (same_over _ _ _ _ _ c.loop-k.invariant c.loop-k-test.false (omega arith))

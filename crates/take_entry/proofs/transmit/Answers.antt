@@ -1,9 +1,7 @@
 -- `take_entry::transmit` meets its contract: one law of TakeOne for each return.
 use native.Mathlib.Omega.{arith}
-use mathlib.Core.Path.{◌≡◌, ◌∙◌}
+use mathlib.Core.Path.{◌∙◌}
 use mathlib.Core.List.{[]}
-use borrow.Author.Rules.{rules}
-use Rattle.take_entry.specs.Transmit.{is_there}
 use Rattle.take_entry.proofs.TakeOne.{test_there, takes_state, takes_packet, takes_none}
 use Rattle.take_entry.proofs.transmit.Goals as goal
 

@@ -4,4 +4,4 @@ use Rattle.drive_all.proofs.poll.before_flush.Goals as goal
 
 pub returns : goal.returns
 returns c =
-    begins c.requires (rw c.clocked-stream.ensures at c.handle_incoming_max_remote_ack-a.ensures) c.poll_check_timeouts.ensures
+    begins c.requires (rw c.clocked.ensures at c.handle_incoming_max_remote_ack-a.ensures) c.poll_check_timeouts.ensures

@@ -5,4 +5,4 @@ use Rattle.drive_all.proofs.poll.flush.Goals as goal
 
 pub returns : goal.returns
 returns c =
-    flushes c.requires c.flush_waiting_packets-f.ensures (search rules) c.left_to_take-left.ensures
+    flushes c.requires c.flush_waiting_packets-f.ensures (search rules) c.left_to_take.ensures

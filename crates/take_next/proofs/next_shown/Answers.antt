@@ -1,12 +1,9 @@
--- `take_next::next_entry` meets its contract. The loop's invariant (`Searching`): the packets of the entries passed have left the store.
-use Prim.Native.Nat.{◌-◌}
-use mathlib.Core.Path.{◌≡◌, ◌∙◌}
+-- `take_next::next_shown` meets its contract. The loop's invariant (`Searching`): the packets of the entries passed have left the store.
+use mathlib.Core.Path.{◌∙◌}
 use mathlib.Core.List.{[]}
-use borrow.Author.Rules.{rules}
-use Rattle.take_entry.specs.Transmit.{is_there}
 use Rattle.take_entry.proofs.TakeOne.{test_there}
-use Rattle.take_next.proofs.LookNext.{Searching, starts, none_there, state_there, packet_there, packet_gone}
-use Rattle.take_next.proofs.next_entry.Goals as goal
+use Rattle.take_next.proofs.LookNext.{none_there, state_there, packet_there, packet_gone}
+use Rattle.take_next.proofs.next_shown.Goals as goal
 
 pub returns-then-x : goal.returns-then-x
 returns-then-x c =

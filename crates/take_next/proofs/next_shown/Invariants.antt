@@ -1,0 +1,5 @@
+use Rattle.take_next.proofs.LookNext.{Searching}
+use Rattle.take_next.proofs.next_shown.Given as goal
+
+abbrev pub invariant-loop-n : goal.invariant-loop-n
+invariant-loop-n l = Searching l.q l.s l.sent l.queue l.n
