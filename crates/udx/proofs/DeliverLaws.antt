@@ -1,22 +1,20 @@
 -- A delivery on the records answers as the model's. Its refusals are the model's list cut in three: those of a drive, a bad header, and
 -- those that need the header. If none applies, it is `handle_incoming` on what is seen.
-use Prim.Native.Nat.{ℕ, ◌+◌, ◌-◌, ◌^◌, ◌≤◌, ◌<◌}
+use Prim.Native.Nat.{ℕ, ◌+◌, ◌-◌, ◌≤◌}
 use native.Mathlib.Omega.{arith}
 use mathlib.Core.Path.{◌≡◌, refl, sym, ap, ap₂, ◌∙◌, subst}
 use mathlib.Core.List.{List}
 use mathlib.Core.Option.{Option, none, some}
-use mathlib.Core.Bool.{Bool, true, false, cond, ◌&&◌, ◌||◌, not}
+use mathlib.Core.Bool.{Bool, true, false, cond, ◌&&◌, not}
 use lib.Dec.{ltb, leb, eqb}
 use lib.ListN.{length, take, drop, length-drop}
 use lib.Seq.{take_all}
-use borrow.Author.Tests.{ltb-false, leb-false, leb-true, eqb-false}
+use borrow.Author.Tests.{ltb-false, leb-false, leb-true}
+use Rattle.std.specs.Prelude.{⊤, Result, Ok, Err}
 use Rattle.error.specs.declared.Refusal.{Refusal}
 use Rattle.error.specs.declared.Refusal.TheVariants as refusal
 use Rattle.error.specs.declared.Outcome.TheVariants.{Ready}
-use Rattle.error.specs.declared.Verdict.{Verdict}
-use Rattle.error.specs.declared.Verdict.TheVariants as verdict
 use Rattle.packet.specs.declared.header.Header.{Header}
-use Rattle.packet.specs.declared.header.Decoded.TheVariants as decodes
 use Rattle.packet.specs.Header.{fields, has_header, has_type, decoded}
 use Rattle.model.specs.Lists.{Bytes}
 use Rattle.model.specs.Slots.{ceiling}
@@ -25,7 +23,7 @@ use Rattle.model.specs.Rules.{rules, states}
 use Rattle.model.specs.Driving.{drive_refusal}
 use Rattle.model.specs.Receiving.{bad_clock, handle_incoming, deliver, deliver_refusal}
 use Rattle.model.specs.Stream.{End}
-use Rattle.model.proofs.Gate.{and_left, and_right}
+use Rattle.model.proofs.Gate.{and_left}
 use Rattle.model.proofs.RulesKept.{rules_say}
 use Rattle.records.specs.declared.Stream.{Stream}
 use Rattle.records.specs.declared.Totals.{Totals}
@@ -33,7 +31,7 @@ use Rattle.records.specs.Seen.{Lent, seen, seen_queue}
 use Rattle.records.specs.Open.{stores_test}
 use Rattle.deliver_data.specs.Absorbing.{Accepted}
 use Rattle.records.proofs.LaidLaws.{laid_said, laid_says}
-use Rattle.deliver_parts.specs.declared.Delivered.{Delivered}
+use Rattle.records.specs.declared.StreamAndTotals.{StreamAndTotals}
 use Rattle.deliver_all.specs.Handle.{CanDeliver, Handled, with_delivered}
 use Rattle.udx_steps.specs.Steps.{refused_step}
 use Rattle.udx.specs.Agree.{laid_out, on_records, Agrees, Answers}
@@ -41,7 +39,7 @@ use Rattle.udx_steps.specs.Deliver.{delivered_step}
 use Rattle.rules_lent.specs.Broken.{broken_records}
 use Rattle.udx_refusals.specs.Verdicts.{verdict_of, early_verdict, header_verdict}
 use Rattle.udx.proofs.EarlyLaws.{early_says, early_clear, early_clock}
-use Rattle.udx.proofs.RefusalLaws.{line, clear_line, is-refused, is_clear, acts_on, why_of, refused_answers}
+use Rattle.udx.proofs.RefusalLaws.{line, clear_line, is-refused, is_clear, acts_on, why_of, refused_answers, none_not_zero}
 use Rattle.udx.proofs.Resting.{ready}
 use Rattle.udx.proofs.Unbroken.{Whole, unbroken, still_laid, places_used}
 
@@ -64,8 +62,8 @@ four_lines false false false false w x y z o = refl
 
 -- refusal 13 by the number of places used
 full_line : (k n : ℕ) → k ≡ n
-    → cond (leb 62 k) (verdict.Refused refusal.StateQueueFull) verdict.Clear ≡ verdict_of (cond (leb 62 n) (some refusal.StateQueueFull) none)
-full_line k n e = rw e (line (leb 62 n) refusal.StateQueueFull verdict.Clear none refl)
+    → cond (leb 62 k) (Err refusal.StateQueueFull) (Ok tt) ≡ verdict_of (cond (leb 62 n) (some refusal.StateQueueFull) none)
+full_line k n e = rw e (line (leb 62 n) refusal.StateQueueFull (Ok tt) none refl)
 
 -- the payload is all that follows the header
 pub rest_of : (datagram : Bytes) → take (length datagram - 20) (drop 20 datagram) ≡ drop 20 datagram
@@ -91,8 +89,8 @@ list_cut datagram clock e =
     four_lines (not (rules e)) (bad_clock clock e) e.ending.ended (ltb 0 e.queue.left) refusal.BrokenRecords refusal.BadClock refusal.AfterDone refusal.BatchesLeft
     (later_why datagram e)
 
-early_why : (laid : Bool) (early later : Option Refusal) (why : Refusal) → verdict.Refused why ≡ verdict_of (cond laid early (some refusal.BrokenRecords))
-    → verdict.Refused why ≡ verdict_of (cond laid (or_else early later) (some refusal.BrokenRecords))
+early_why : (laid : Bool) (early later : Option Refusal) (why : Refusal) → Err why ≡ verdict_of (cond laid early (some refusal.BrokenRecords))
+    → Err why ≡ verdict_of (cond laid (or_else early later) (some refusal.BrokenRecords))
 early_why false early later why v = v
 early_why true none later why v = let z : ◌≡◌ {A = ℕ} 0 1 = cc in absurd (omega arith)
 early_why true (some x) later why v = v
@@ -100,24 +98,24 @@ early_why true (some x) later why v = v
 late_why : (laid : Bool) (early later : Option Refusal) → laid ≡ true → early ≡ none → cond laid (or_else early later) (some refusal.BrokenRecords) ≡ later
 late_why laid early later p q = rw (p, q) refl
 
-module _ (s : Stream) (t : Totals) (l : Lent) (len : length l.queue ≡ 128) (datagram : Bytes) (clock : ℕ) (b : Bool) (v : Verdict) (is : b ≡ broken_records s t l)
+module _ (s : Stream) (t : Totals) (l : Lent) (len : length l.queue ≡ 128) (datagram : Bytes) (clock : ℕ) (b : Bool) (v : Result ⊤ Refusal) (is : b ≡ broken_records s t l)
     (says : v ≡ early_verdict b s clock) where
   acts : End → Answer
   acts e = answered Ready (handle_incoming clock (fields datagram) (drop 20 datagram) e)
 
-  refuses : (why : Refusal) → verdict.Refused why ≡ verdict_of (why_of (deliver_refusal datagram clock) s t l) → Answers (deliver datagram clock) s t l (refused_step s t why) l
+  refuses : (why : Refusal) → Err why ≡ verdict_of (why_of (deliver_refusal datagram clock) s t l) → Answers (deliver datagram clock) s t l (refused_step s t why) l
   unfolding deliver acts
   refuses why e =
       refused_answers (deliver datagram clock) s t l why (is-refused (deliver datagram clock) (deliver_refusal datagram clock) acts s t l why (λ e. refl) e)
 
   -- refused before the datagram is read
-  pub early_refused : (why : Refusal) → v ≡ verdict.Refused why → Answers (deliver datagram clock) s t l (refused_step s t why) l
+  pub early_refused : (why : Refusal) → v ≡ Err why → Answers (deliver datagram clock) s t l (refused_step s t why) l
   early_refused why e =
       refuses why
       (early_why (laid_out s l) (drive_refusal clock (seen s t l)) (later_why datagram (seen s t l)) why (sym e ∙ early_says s t l len clock b v is says)
       ∙ ap (λ (o : Option Refusal). verdict_of (cond (laid_out s l) o (some refusal.BrokenRecords))) (sym (list_cut datagram clock (seen s t l))))
 
-  module _ (clear : v ≡ verdict.Clear) where
+  module _ (clear : v ≡ Ok tt) where
     free : (laid_out s l ≡ true) × (drive_refusal clock (seen s t l) ≡ none)
     free = is_clear (drive_refusal clock) s t l (sym clear ∙ early_says s t l len clock b v is says)
 
@@ -127,19 +125,19 @@ module _ (s : Stream) (t : Totals) (l : Lent) (len : length l.queue ≡ 128) (da
         ∙ late_why (laid_out s l) (drive_refusal clock (seen s t l)) (later_why datagram (seen s t l)) free.0 free.1
 
     -- no header
-    no_header : (t : Bool) (why : Refusal) → cond t (decodes.Packet (fields datagram)) (decodes.Refused refusal.BadHeader) ≡ decodes.Refused why
+    no_header : (t : Bool) (why : Refusal) → cond t (Ok (fields datagram)) (Err refusal.BadHeader) ≡ Err why
         → (t ≡ false) × (refusal.BadHeader ≡ why)
     no_header true why e = let z : ◌≡◌ {A = ℕ} 0 1 = cc in absurd (omega arith)
     no_header false why e = (refl, cc)
 
-    pub header_refused : (why : Refusal) → decoded datagram ≡ decodes.Refused why → Answers (deliver datagram clock) s t l (refused_step s t why) l
+    pub header_refused : (why : Refusal) → decoded datagram ≡ Err why → Answers (deliver datagram clock) s t l (refused_step s t why) l
     unfolding decoded
     header_refused why e =
         let (f, w) = no_header (has_header datagram) why e in
         refuses why (sym (ap verdict_of later_list ∙ rw (f, w) refl))
 
-    module _ (h : Header) (e : decoded datagram ≡ decodes.Packet h) where
-      a_header : (t : Bool) → cond t (decodes.Packet (fields datagram)) (decodes.Refused refusal.BadHeader) ≡ decodes.Packet h → (t ≡ true) × (h ≡ fields datagram)
+    module _ (h : Header) (e : decoded datagram ≡ Ok h) where
+      a_header : (t : Bool) → cond t (Ok (fields datagram)) (Err refusal.BadHeader) ≡ Ok h → (t ≡ true) × (h ≡ fields datagram)
       a_header true z = (refl, cc)
       a_header false z = let y : ◌≡◌ {A = ℕ} 0 1 = cc in absurd (omega arith)
 
@@ -153,7 +151,7 @@ module _ (s : Stream) (t : Totals) (l : Lent) (len : length l.queue ≡ 128) (da
       whole : Whole s t l
       whole = unbroken s t l len (early_clear s t l len clock b v is says clear).0
 
-      module _ (x : Verdict) (heads : x ≡ header_verdict s h (length datagram - 20)) where
+      module _ (x : Result ⊤ Refusal) (heads : x ≡ header_verdict s h (length datagram - 20)) where
         header_lines : header_verdict s h (length datagram - 20) ≡ verdict_of (header_why h (length datagram - 20) (seen s t l))
         unfolding header_verdict seen seen_queue
         header_lines =
@@ -172,11 +170,11 @@ module _ (s : Stream) (t : Totals) (l : Lent) (len : length l.queue ≡ 128) (da
         header_list : x ≡ verdict_of (why_of (deliver_refusal datagram clock) s t l)
         header_list = heads ∙ header_lines ∙ ap verdict_of (sym header_found)
 
-        pub fields_refused : (why : Refusal) → x ≡ verdict.Refused why → Answers (deliver datagram clock) s t l (refused_step s t why) l
+        pub fields_refused : (why : Refusal) → x ≡ Err why → Answers (deliver datagram clock) s t l (refused_step s t why) l
         fields_refused why y = refuses why (sym y ∙ header_list)
 
         -- none of them applies
-        module _ (accepts : x ≡ verdict.Clear) where
+        module _ (accepts : x ≡ Ok tt) where
           tests : (ltb 1_380 (length datagram - 20) ≡ false) × ((has_type 1 h.typ && leb 4_294_967_295 h.seq) ≡ false)
               × ((has_type 1 h.typ && leb (s.receiver.read_cursor + 32) h.seq) ≡ false) × (leb 62 s.queue.states ≡ false)
           unfolding header_verdict
@@ -223,7 +221,7 @@ module _ (s : Stream) (t : Totals) (l : Lent) (len : length l.queue ≡ 128) (da
                 takes = data_accepted;
               })
 
-          module _ (payload : Bytes) (part : payload ≡ drop 20 datagram) (d : Delivered) (sent' held' queue' : List ℕ) (incoming' headers' : Bytes)
+          module _ (payload : Bytes) (part : payload ≡ drop 20 datagram) (d : StreamAndTotals) (sent' held' queue' : List ℕ) (incoming' headers' : Bytes)
               (y : Handled s t clock h payload l.sent l.held l.queue l.incoming l.headers d sent' held' queue' incoming' headers')
               (same_incoming : length incoming' ≡ length l.incoming) (same-headers : length headers' ≡ length l.headers) where
             abbrev after : Lent
@@ -245,6 +243,7 @@ module _ (s : Stream) (t : Totals) (l : Lent) (len : length l.queue ≡ 128) (da
                   outcome = refl;
                   count = refl;
                   segment = refl;
+                  not_zero = none_not_zero;
                   end = y.seen_after l ∙ ap₂ (λ (g : Header) (b : Bytes). handle_incoming clock g b (seen s t l)) found.1 part;
                 }
 

@@ -1,15 +1,14 @@
 -- A drive on the records answers as the model's. Its refusals are the model's list. If none applies, it answers done if the stream is
 -- drained, else it is `poll_drive` on what is seen; the rules leave enough room in the queue.
-use Prim.Native.Nat.{ℕ, ◌<◌}
+use Prim.Native.Nat.{ℕ}
 use native.Mathlib.Omega.{arith}
 use mathlib.Core.Path.{◌≡◌, refl, sym, ap, ◌∙◌, subst}
 use mathlib.Core.List.{List}
 use mathlib.Core.Bool.{Bool, true, false, cond}
 use lib.ListN.{length}
+use Rattle.std.specs.Prelude.{⊤, Result, Ok, Err}
 use Rattle.error.specs.declared.Refusal.{Refusal}
 use Rattle.error.specs.declared.Outcome.TheVariants.{Ready, Done}
-use Rattle.error.specs.declared.Verdict.{Verdict}
-use Rattle.error.specs.declared.Verdict.TheVariants as verdict
 use Rattle.model.specs.Lists.{Bytes}
 use Rattle.model.specs.Stream.{End}
 use Rattle.model.specs.Answers.{Answer, answered}
@@ -22,7 +21,7 @@ use Rattle.records.specs.Seen.{Lent, seen, seen_queue, formed_receiver}
 use Rattle.records.specs.Open.{stores_test}
 use Rattle.drive_drain.specs.Draining.{Drains}
 use Rattle.drive_lost.proofs.RulesDrive.{rules_stored}
-use Rattle.drive_settle.specs.declared.Polled.{Polled}
+use Rattle.records.specs.declared.StreamAndTotals.{StreamAndTotals}
 use Rattle.drive_timeouts.specs.Timeouts.{with_polled}
 use Rattle.drive_all.specs.Poll.{CanDrive, Polls}
 use Rattle.udx_steps.specs.Steps.{refused_step}
@@ -31,7 +30,7 @@ use Rattle.udx_steps.specs.Drive.{done_step, polled_step}
 use Rattle.rules_lent.specs.Broken.{broken_records}
 use Rattle.udx_refusals.specs.Verdicts.{early_verdict}
 use Rattle.udx.proofs.EarlyLaws.{early_says, early_clear, early_clock}
-use Rattle.udx.proofs.RefusalLaws.{is-refused, is_clear, acts_on, refused_answers}
+use Rattle.udx.proofs.RefusalLaws.{is-refused, is_clear, acts_on, refused_answers, none_not_zero}
 use Rattle.udx.proofs.Resting.{ready}
 use Rattle.udx.proofs.Unbroken.{Whole, unbroken, still_laid, places_used}
 
@@ -39,15 +38,15 @@ use Rattle.udx.proofs.Unbroken.{Whole, unbroken, still_laid, places_used}
 abbrev acts : ℕ → End → Answer
 acts clock e = cond (drained e) (answered Done (ended (drive_clock clock e))) (answered Ready (poll_drive clock e))
 
-module _ (s : Stream) (t : Totals) (l : Lent) (len : length l.queue ≡ 128) (clock : ℕ) (b : Bool) (v : Verdict) (is : b ≡ broken_records s t l)
+module _ (s : Stream) (t : Totals) (l : Lent) (len : length l.queue ≡ 128) (clock : ℕ) (b : Bool) (v : Result ⊤ Refusal) (is : b ≡ broken_records s t l)
     (says : v ≡ early_verdict b s clock) where
-  pub drive_refused : (why : Refusal) → v ≡ verdict.Refused why → Answers (drive clock) s t l (refused_step s t why) l
+  pub drive_refused : (why : Refusal) → v ≡ Err why → Answers (drive clock) s t l (refused_step s t why) l
   unfolding drive
   drive_refused why e =
       refused_answers (drive clock) s t l why
       (is-refused (drive clock) (drive_refusal clock) (acts clock) s t l why (λ x. refl) (sym e ∙ early_says s t l len clock b v is says))
 
-  module _ (clear : v ≡ verdict.Clear) where
+  module _ (clear : v ≡ Ok tt) where
     whole : Whole s t l
     whole = unbroken s t l len (early_clear s t l len clock b v is says clear).0
 
@@ -72,14 +71,14 @@ module _ (s : Stream) (t : Totals) (l : Lent) (len : length l.queue ≡ 128) (cl
             agrees =
                 subst (λ (a : Answer). Agrees a (done_step clock s t) l)
                 (sym (acting ∙ ap (λ (d : Bool). cond d (answered Done (ended (drive_clock clock (seen s t l)))) (answered Ready (poll_drive clock (seen s t l)))) (sym drains ∙ e)))
-                (record { outcome = refl; count = refl; segment = refl; end = refl });
+                (record { outcome = refl; count = refl; segment = refl; not_zero = none_not_zero; end = refl });
             stays = λ h. still_laid (done_step clock s t).stream l whole.stores whole.receiver whole.words;
             changes_nothing = λ why z. absurd (let z' : ◌≡◌ {A = ℕ} 0 1 = cc in omega arith);
             beside = record { outgoing = λ i l. refl; incoming = λ i l. refl };
           }
 
       -- polled
-      module _ (p : Polled) (sent' queue' : List ℕ) (headers' : Bytes) (y : Polls s t clock l.sent l.queue l.headers p sent' queue' headers') where
+      module _ (p : StreamAndTotals) (sent' queue' : List ℕ) (headers' : Bytes) (y : Polls s t clock l.sent l.queue l.headers p sent' queue' headers') where
         abbrev after : Lent
         after = with_polled sent' queue' headers' l
 
@@ -92,7 +91,7 @@ module _ (s : Stream) (t : Totals) (l : Lent) (len : length l.queue ≡ 128) (cl
               agrees =
                   subst (λ (a : Answer). Agrees a (polled_step p) after)
                   (sym (acting ∙ ap (λ (d : Bool). cond d (answered Done (ended (drive_clock clock (seen s t l)))) (answered Ready (poll_drive clock (seen s t l)))) (sym drains ∙ e)))
-                  (record { outcome = refl; count = refl; segment = refl; end = y.seen_after l });
+                  (record { outcome = refl; count = refl; segment = refl; not_zero = none_not_zero; end = y.seen_after l });
               stays = λ h.
                   still_laid p.stream after stores_same (subst (λ (r : Receiver). formed_receiver r ≡ true) (sym y.receiver) whole.receiver) y.formed;
               changes_nothing = λ why z. absurd (let z' : ◌≡◌ {A = ℕ} 0 1 = cc in omega arith);

@@ -7,9 +7,9 @@ use native.Mathlib.Omega.{arith}
 use lib.Dec.{ltb, leb}
 use lib.ListN.{length}
 use borrow.Author.Tests.{ltb-false, leb-false}
+use Rattle.error.specs.declared.Refusal.{Refusal}
+use Rattle.std.specs.Prelude.{⊤, Result, Ok}
 use Rattle.error.specs.declared.Refusal.TheVariants as refusal
-use Rattle.error.specs.declared.Verdict.{Verdict}
-use Rattle.error.specs.declared.Verdict.TheVariants.{Clear}
 use Rattle.model.specs.Driving.{drive_refusal}
 use Rattle.records.specs.declared.Stream.{Stream}
 use Rattle.records.specs.declared.Totals.{Totals}
@@ -28,15 +28,15 @@ module _ (s : Stream) (t : Totals) (l : Lent) (len : length l.queue ≡ 128) (cl
   early_list =
       refusal_one s t l _ _ len
       (line (leb (2 ^ 60) clock || ltb clock s.clocks.last.0) refusal.BadClock _ _
-      (line s.ending.ended refusal.AfterDone _ _ (line (ltb 0 s.queue.left) refusal.BatchesLeft Clear none refl)))
+      (line s.ending.ended refusal.AfterDone _ _ (line (ltb 0 s.queue.left) refusal.BatchesLeft (Ok tt) none refl)))
 
-  module _ (b : Bool) (v : Verdict) (is : b ≡ broken_records s t l) (says : v ≡ early_verdict b s clock) where
+  module _ (b : Bool) (v : Result ⊤ Refusal) (is : b ≡ broken_records s t l) (says : v ≡ early_verdict b s clock) where
     -- the verdict
     pub early_says : v ≡ verdict_of (why_of (drive_refusal clock) s t l)
     early_says = says ∙ ap (λ (x : Bool). early_verdict x s clock) is ∙ early_list
 
     -- what a clear verdict implies: no refusal 1, a good clock, nothing left to take
-    pub early_clear : v ≡ Clear
+    pub early_clear : v ≡ Ok tt
         → (broken_records s t l ≡ false) × ((leb (2 ^ 60) clock || ltb clock s.clocks.last.0) ≡ false) × (s.queue.left ≡ 0)
     unfolding early_verdict
     early_clear clear =
@@ -47,5 +47,5 @@ module _ (s : Stream) (t : Totals) (l : Lent) (len : length l.queue ≡ 128) (cl
         let z = ltb-false 0 s.queue.left six in
         (sym is ∙ one, four, omega arith)
 
-    pub early_clock : v ≡ Clear → clock < 2 ^ 60
+    pub early_clock : v ≡ Ok tt → clock < 2 ^ 60
     early_clock clear = leb-false (2 ^ 60) clock (or_left (leb (2 ^ 60) clock) (ltb clock s.clocks.last.0) (early_clear clear).1)

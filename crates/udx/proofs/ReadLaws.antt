@@ -8,12 +8,11 @@ use mathlib.Core.Bool.{Bool, true, false, cond}
 use lib.Dec.{ltb, leb, eqb}
 use lib.ListN.{length, get_or}
 use borrow.Author.Tests.{ltb-true, ltb-false, leb-true}
+use Rattle.std.specs.Prelude.{Ok, Err, None, Some, Option}
 use Rattle.error.specs.declared.UdxError.{UdxError}
 use Rattle.error.specs.declared.UdxError.TheVariants as error
 use Rattle.error.specs.declared.Refusal.{Refusal}
 use Rattle.error.specs.declared.Refusal.TheVariants as refusal
-use Rattle.error.specs.declared.Outcome.TheVariants.{Refused}
-use Rattle.error.specs.declared.Verdict.TheVariants as verdict
 use Rattle.model.specs.Lists.{Bytes}
 use Rattle.model.specs.Slots.{ceiling}
 use Rattle.model.specs.Stream.{End, with_receiver}
@@ -38,7 +37,7 @@ use Rattle.rules_lent.specs.Broken.{broken_records}
 use Rattle.udx_refusals.specs.Verdicts.{verdict_of}
 use Rattle.udx_steps.specs.Read.{outcome_of, read_stream, read_step}
 use Rattle.udx.specs.Read.{read_lent, Gives}
-use Rattle.udx.proofs.RefusalLaws.{refusal_one, why_of, is-refused, is_clear, acts_on, refused_agrees, puts_nothing}
+use Rattle.udx.proofs.RefusalLaws.{refusal_one, why_of, is-refused, is_clear, acts_on, refused_agrees, puts_nothing, none_not_zero}
 use Rattle.udx.proofs.Unbroken.{Whole, unbroken, still_laid}
 
 -- held packets obey their rule
@@ -93,15 +92,15 @@ outcome_is : (b : Bool) (e : End) → outcome_of b e.ending.error ≡ read_outco
 outcome_is true e = refl
 outcome_is false e = refl
 
-other : (b : Bool) (x : UdxError) → outcome_of b x ≡ Refused refusal.BrokenRecords → ⊥
+other : (b : Bool) (x : Option UdxError) → outcome_of b x ≡ Err refusal.BrokenRecords → ⊥
 other true x q = let z : ◌≡◌ {A = ℕ} 0 1 = cc in omega arith
-other false error.None q = let z : ◌≡◌ {A = ℕ} 0 1 = cc in omega arith
-other false error.ConnectionReset q = let z : ◌≡◌ {A = ℕ} 0 1 = cc in omega arith
-other false error.UnexpectedEof q = let z : ◌≡◌ {A = ℕ} 0 1 = cc in omega arith
-other false error.TimedOut q = let z : ◌≡◌ {A = ℕ} 0 1 = cc in omega arith
+other false None q = let z : ◌≡◌ {A = ℕ} 0 1 = cc in omega arith
+other false (Some error.ConnectionReset) q = let z : ◌≡◌ {A = ℕ} 0 1 = cc in omega arith
+other false (Some error.UnexpectedEof) q = let z : ◌≡◌ {A = ℕ} 0 1 = cc in omega arith
+other false (Some error.TimedOut) q = let z : ◌≡◌ {A = ℕ} 0 1 = cc in omega arith
 
 -- a refused read finished no packet
-unfinished : (b : Bool) (x : UdxError) (why : Refusal) → outcome_of b x ≡ Refused why → b ≡ false
+unfinished : (b : Bool) (x : Option UdxError) (why : Refusal) → outcome_of b x ≡ Err why → b ≡ false
 unfinished true x why q = let z : ◌≡◌ {A = ℕ} 0 1 = cc in absurd (omega arith)
 unfinished false x why q = refl
 
@@ -109,14 +108,14 @@ module _ (s : Stream) (t : Totals) (l : Lent) (buf : Bytes) (len : length l.queu
   abbrev acts : End → Answer
   acts e = read_answer (read_next (length buf) e.receiver) e
 
-  list : cond (broken_records s t l) (verdict.Refused refusal.BrokenRecords) verdict.Clear ≡ verdict_of (why_of read_refusal s t l)
+  list : cond (broken_records s t l) (Err refusal.BrokenRecords) (Ok tt) ≡ verdict_of (why_of read_refusal s t l)
   unfolding read_refusal
-  list = refusal_one s t l verdict.Clear none len refl
+  list = refusal_one s t l (Ok tt) none len refl
 
   pub read_refused : broken_records s t l ≡ true → Gives s t l buf (refused_step s t refusal.BrokenRecords) l buf
   unfolding read
   read_refused h =
-      let v : verdict.Refused refusal.BrokenRecords ≡ verdict_of (why_of read_refusal s t l) = rw h at list in
+      let v : Err refusal.BrokenRecords ≡ verdict_of (why_of read_refusal s t l) = rw h at list in
       let e = is-refused (read (length buf)) read_refusal acts s t l refusal.BrokenRecords (λ e. refl) v in
       record {
         agrees = refused_agrees (read (length buf)) s t l refusal.BrokenRecords e;
@@ -141,7 +140,7 @@ module _ (s : Stream) (t : Totals) (l : Lent) (buf : Bytes) (len : length l.queu
     acting : on_records (read (length buf)) s t l ≡ acts (seen s t l)
     unfolding read
     acting =
-        let v : verdict.Clear ≡ verdict_of (why_of read_refusal s t l) = rw h at list in
+        let v : (Ok tt) ≡ verdict_of (why_of read_refusal s t l) = rw h at list in
         let (laid, nothing) = is_clear read_refusal s t l v in
         acts_on (read (length buf)) read_refusal acts s t l (λ e. refl) laid nothing
 
@@ -156,6 +155,7 @@ module _ (s : Stream) (t : Totals) (l : Lent) (buf : Bytes) (len : length l.queu
             outcome = ap (λ (b : Bool). outcome_of b s.ending.error) x.finished ∙ outcome_is (read_next (length buf) (seen s t l).receiver).ready (seen s t l);
             count = x.count;
             segment = refl;
+            not_zero = none_not_zero;
             end = ap (λ z. with_receiver z (seen s t l)) x.seen;
           }
 

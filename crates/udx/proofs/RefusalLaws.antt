@@ -8,12 +8,12 @@ use mathlib.Core.Option.{Option, none, some}
 use mathlib.Core.Bool.{Bool, true, false, cond, ◌&&◌, ◌||◌, not}
 use lib.Dec.{ltb, leb}
 use lib.ListN.{length}
+use Rattle.std.specs.Prelude as rust
+use Rattle.std.specs.Prelude.{◌≢◌, ⊤, Result, Ok, Err, None, Some}
 use Rattle.error.specs.declared.UdxError.{UdxError}
 use Rattle.error.specs.declared.UdxError.TheVariants as error
 use Rattle.error.specs.declared.Refusal.{Refusal}
 use Rattle.error.specs.declared.Refusal.TheVariants as refusal
-use Rattle.error.specs.declared.Verdict.{Verdict}
-use Rattle.error.specs.declared.Verdict.TheVariants.{Clear, Refused}
 use Rattle.model.specs.Stream.{End}
 use Rattle.model.specs.Answers.{Answer, refused, gate}
 use Rattle.model.specs.Rules.{rules}
@@ -31,30 +31,30 @@ use Rattle.rules_lent.specs.Broken.{broken_records}
 use Rattle.udx_refusals.specs.Verdicts.{verdict_of, error_verdict, write_verdict}
 
 -- one test of a list
-pub line : (b : Bool) (why : Refusal) (v : Verdict) (o : Option Refusal) → v ≡ verdict_of o → cond b (Refused why) v ≡ verdict_of (cond b (some why) o)
+pub line : (b : Bool) (why : Refusal) (v : Result ⊤ Refusal) (o : Option Refusal) → v ≡ verdict_of o → cond b (Err why) v ≡ verdict_of (cond b (some why) o)
 line true why v o e = refl
 line false why v o e = e
 
 -- the three tests of the stream's error
-pub error_lines : (x : UdxError) (v : Verdict) (o : Option Refusal) → v ≡ verdict_of o
+pub error_lines : (x : rust.Option UdxError) (v : Result ⊤ Refusal) (o : Option Refusal) → v ≡ verdict_of o
     → error_verdict x v
     ≡ verdict_of (cond (is_reset x) (some refusal.ConnectionReset) (cond (is_eof x) (some refusal.UnexpectedEof) (cond (is_timed_out x) (some refusal.TimedOut) o)))
-error_lines error.None v o e = e
-error_lines error.ConnectionReset v o e = refl
-error_lines error.UnexpectedEof v o e = refl
-error_lines error.TimedOut v o e = refl
+error_lines None v o e = e
+error_lines (Some error.ConnectionReset) v o e = refl
+error_lines (Some error.UnexpectedEof) v o e = refl
+error_lines (Some error.TimedOut) v o e = refl
 
 -- refusal 1, before the others
 first_cases : (differ laid kept : Bool) (o : Option Refusal)
-    → cond (differ || not (laid && kept)) (Refused refusal.BrokenRecords) (verdict_of o)
+    → cond (differ || not (laid && kept)) (Err refusal.BrokenRecords) (verdict_of o)
     ≡ verdict_of (cond (not differ && laid) (cond (not kept) (some refusal.BrokenRecords) o) (some refusal.BrokenRecords))
 first_cases true laid kept o = refl
 first_cases false false kept o = refl
 first_cases false true false o = refl
 first_cases false true true o = refl
 
-pub refusal_one : (s : Stream) (t : Totals) (l : Lent) (v : Verdict) (o : Option Refusal) → length l.queue ≡ 128 → v ≡ verdict_of o
-    → cond (broken_records s t l) (Refused refusal.BrokenRecords) v
+pub refusal_one : (s : Stream) (t : Totals) (l : Lent) (v : Result ⊤ Refusal) (o : Option Refusal) → length l.queue ≡ 128 → v ≡ verdict_of o
+    → cond (broken_records s t l) (Err refusal.BrokenRecords) v
     ≡ verdict_of (cond (laid_out s l) (cond (not (rules (seen s t l))) (some refusal.BrokenRecords) o) (some refusal.BrokenRecords))
 unfolding broken_records laid_out
 refusal_one s t l v o h e =
@@ -63,11 +63,11 @@ refusal_one s t l v o h e =
 
 -- what a verdict implies
 
-refusal-of : (o : Option Refusal) (why : Refusal) → Refused why ≡ verdict_of o → o ≡ some why
+refusal-of : (o : Option Refusal) (why : Refusal) → Err why ≡ verdict_of o → o ≡ some why
 refusal-of none why e = let z : ◌≡◌ {A = ℕ} 0 1 = cc in absurd (omega arith)
 refusal-of (some x) why e = let z : x ≡ why = cc in ap some z
 
-none_of : (o : Option Refusal) → Clear ≡ verdict_of o → o ≡ none
+none_of : (o : Option Refusal) → (Ok tt) ≡ verdict_of o → o ≡ none
 none_of none e = refl
 none_of (some x) e = let z : ◌≡◌ {A = ℕ} 0 1 = cc in absurd (omega arith)
 
@@ -83,7 +83,7 @@ refused_cases true o why e a h = ap (λ x. gate x e a) h
 
 pub is-refused : (call : End → Answer) (tests : End → Option Refusal) (acts : End → Answer) (s : Stream) (t : Totals) (l : Lent) (why : Refusal)
     → ((e : End) → call e ≡ gate (tests e) e (acts e))
-    → Refused why ≡ verdict_of (why_of tests s t l)
+    → Err why ≡ verdict_of (why_of tests s t l)
     → on_records call s t l ≡ refused why (seen s t l)
 unfolding on_records
 is-refused call tests acts s t l why g v =
@@ -93,7 +93,7 @@ clear_cases : (laid : Bool) (o : Option Refusal) → cond laid o (some refusal.B
 clear_cases true o h = (refl, h)
 clear_cases false o h = let z : ◌≡◌ {A = ℕ} 0 1 = cc in absurd (omega arith)
 
-pub is_clear : (tests : End → Option Refusal) (s : Stream) (t : Totals) (l : Lent) → Clear ≡ verdict_of (why_of tests s t l)
+pub is_clear : (tests : End → Option Refusal) (s : Stream) (t : Totals) (l : Lent) → (Ok tt) ≡ verdict_of (why_of tests s t l)
     → (laid_out s l ≡ true) × (tests (seen s t l) ≡ none)
 is_clear tests s t l v = clear_cases (laid_out s l) (tests (seen s t l)) (none_of (why_of tests s t l) v)
 
@@ -112,19 +112,23 @@ write_list s t l bytes len =
     let empty = is_empty bytes in
     refusal_one s t l _ _ len
     (line (ltb 0 s.queue.left) refusal.BatchesLeft _ _
-    (error_lines s.ending.error _ _ (line (not empty && leb 4_294_967_295 s.sender.seq) refusal.SeqExhausted Clear none refl)))
+    (error_lines s.ending.error _ _ (line (not empty && leb 4_294_967_295 s.sender.seq) refusal.SeqExhausted (Ok tt) none refl)))
 
 -- if a verdict is clear, none of its tests holds
-pub clear_line : (b : Bool) (why : Refusal) (v : Verdict) → cond b (Refused why) v ≡ Clear → (b ≡ false) × (v ≡ Clear)
+pub clear_line : (b : Bool) (why : Refusal) (v : Result ⊤ Refusal) → cond b (Err why) v ≡ Ok tt → (b ≡ false) × (v ≡ Ok tt)
 clear_line true why v h = let z : ◌≡◌ {A = ℕ} 0 1 = cc in absurd (omega arith)
 clear_line false why v h = (refl, h)
+
+-- no segment size is not a size of 0
+pub none_not_zero : ◌≢◌ {A = rust.Option ℕ} None (Some 0)
+none_not_zero e = let z : ◌≡◌ {A = ℕ} 0 1 = cc in omega arith
 
 -- a refused call
 
 pub refused_agrees : (call : End → Answer) (s : Stream) (t : Totals) (l : Lent) (why : Refusal) → on_records call s t l ≡ refused why (seen s t l)
     → Agrees (on_records call s t l) (refused_step s t why) l
 refused_agrees call s t l why e =
-    subst (λ (a : Answer). Agrees a (refused_step s t why) l) (sym e) (record { outcome = refl; count = refl; segment = refl; end = refl })
+    subst (λ (a : Answer). Agrees a (refused_step s t why) l) (sym e) (record { outcome = refl; count = refl; segment = refl; not_zero = none_not_zero; end = refl })
 
 pub refused_answers : (call : End → Answer) (s : Stream) (t : Totals) (l : Lent) (why : Refusal) → on_records call s t l ≡ refused why (seen s t l)
     → Answers call s t l (refused_step s t why) l

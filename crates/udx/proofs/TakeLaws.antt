@@ -7,12 +7,11 @@ use mathlib.Core.Option.{none, some}
 use mathlib.Core.Bool.{Bool, true, false, cond}
 use lib.Dec.{ltb, eqb}
 use lib.ListN.{length}
-use borrow.Author.Tests.{ltb-false, lt-ltb, le-ltb, ne_eqb}
+use borrow.Author.Tests.{ltb-false, lt-ltb, le-ltb}
+use Rattle.std.specs.Prelude.{⊤, Result, Ok, Err, None, Some, ◌≢◌}
 use Rattle.error.specs.declared.Refusal.{Refusal}
 use Rattle.error.specs.declared.Refusal.TheVariants as refusal
-use Rattle.error.specs.declared.Outcome.TheVariants.{Ready, Nothing, Refused}
-use Rattle.error.specs.declared.Verdict.{Verdict}
-use Rattle.error.specs.declared.Verdict.TheVariants as verdict
+use Rattle.error.specs.declared.Outcome.TheVariants.{Ready, Nothing}
 use Rattle.model.specs.Lists.{Bytes}
 use Rattle.model.specs.Stream.{Entry, state, packet, End}
 use Rattle.model.specs.Slots.{Slots}
@@ -27,7 +26,7 @@ use Rattle.records.specs.Put.{put}
 use Rattle.records.specs.Seen.{Lent, seen, seen_queue}
 use Rattle.records.proofs.FormedQueue.{queue_said}
 use Rattle.take_next.specs.declared.Handed.{Handed}
-use Rattle.take_next.specs.Take.{taken_stream, taken_lent, Sendable, HandedOut, HandsOut}
+use Rattle.take_next.specs.Take.{taken_stream, taken_lent, Sendable, segment_size, HandedOut, HandsOut}
 use Rattle.take_next.proofs.RulesTake.{own_lends, rules_take}
 use Rattle.udx.specs.Agree as agree
 use Rattle.udx_steps.specs.Steps.{refused_step}
@@ -36,43 +35,50 @@ use Rattle.rules_lent.specs.Broken.{broken_records}
 use Rattle.udx_refusals.specs.Verdicts.{verdict_of, take_verdict}
 use Rattle.udx_steps.specs.Take.{nothing_step, taken_step}
 use Rattle.udx.specs.Take.{Hands}
-use Rattle.udx.proofs.RefusalLaws.{line, refusal_one, why_of, is-refused, is_clear, acts_on, clear_line, refused_answers, puts_nothing}
+use Rattle.udx.proofs.RefusalLaws.{line, refusal_one, why_of, is-refused, is_clear, acts_on, clear_line, refused_answers, puts_nothing, none_not_zero}
 use Rattle.udx.proofs.Unbroken.{Whole, unbroken, still_laid}
 
 -- a batch's segment size is that of its first entry, which has 20 bytes or more
 
-segment_is : (k m : ℕ) → 20 ≤ m → agree.segment_of (cond (eqb k 1) 0 m) ≡ segment_of k m
-segment_is k m h = go (eqb k 1)
+segment_is : (k m : ℕ) → agree.segment_of (segment_size k m) ≡ segment_of k m
+segment_is k m = go (eqb k 1)
   where
-    go : (b : Bool) → agree.segment_of (cond b 0 m) ≡ cond b none (some m)
+    go : (b : Bool) → agree.segment_of (cond b None (Some m)) ≡ cond b none (some m)
     go true = refl
-    go false = rw (ne_eqb m 0 (λ z. (omega arith))) refl
+    go false = refl
+
+size_not_zero : (k m : ℕ) → 20 ≤ m → segment_size k m ≢ Some 0
+size_not_zero k m h = go (eqb k 1)
+  where
+    go : (b : Bool) → cond b None (Some m) ≢ Some 0
+    go true e = none_not_zero e
+    go false e = let z : m ≡ 0 = cc in omega arith
 
 head_some : (outgoing : Slots model.Packet) (q : List Entry) → Every (EntryKept outgoing) q → 0 < length q → 20 ≤ head_length q
 head_some outgoing [] k h = absurd (omega arith)
 head_some outgoing (state b ∷ q) k h = let z = k.0 in omega arith
 head_some outgoing (packet n l ∷ q) k h = let (a, b, c) = k.0 in omega arith
 
-ready_other : (why : Refusal) → Ready ≡ Refused why → ⊥
+ready_other : (why : Refusal) → (Ok Ready) ≡ Err why → ⊥
 ready_other why q = let z : ◌≡◌ {A = ℕ} 0 1 = cc in omega arith
 
 -- b is the result of refusal 1's test, v the verdict
 module _ (s : Stream) (t : Totals) (l : Lent) (buf : Bytes) (len : length l.queue ≡ 128) (b : Bool) (is : b ≡ broken_records s t l)
-    (v : Verdict) (h : v ≡ take_verdict b (length buf)) where
+    (v : Result ⊤ Refusal) (h : v ≡ take_verdict b (length buf)) where
   abbrev acts : End → Answer
   acts e = cond (ltb 0 e.queue.left) (take_answer (take_loop (batch e) e.queue.entries e) e) (answered Nothing e)
 
   says : v ≡ verdict_of (why_of (take_refusal (length buf)) s t l)
   unfolding take_verdict take_refusal
-  says = h ∙ (rw is (refusal_one s t l _ _ len (line (ltb (length buf) 14_000) refusal.ShortBuffer verdict.Clear none refl)))
+  says = h ∙ (rw is (refusal_one s t l _ _ len (line (ltb (length buf) 14_000) refusal.ShortBuffer (Ok tt) none refl)))
 
-  pub take_refused : (why : Refusal) → v ≡ verdict.Refused why → Hands s t l buf (refused_step s t why) l buf
+  pub take_refused : (why : Refusal) → v ≡ Err why → Hands s t l buf (refused_step s t why) l buf
   unfolding take
   take_refused why e =
       let a = is-refused (take (length buf)) (take_refusal (length buf)) acts s t l why (λ e. refl) (sym e ∙ says) in
       record { answers = refused_answers (take (length buf)) s t l why a; bytes = puts_nothing buf (on_records (take (length buf)) s t l) (ap (λ (z : Answer). z.bytes) a) }
 
-  module _ (clear : v ≡ verdict.Clear) where
+  module _ (clear : v ≡ Ok tt) where
     acting : on_records (take (length buf)) s t l ≡ acts (seen s t l)
     unfolding take
     acting =
@@ -87,7 +93,7 @@ module _ (s : Stream) (t : Totals) (l : Lent) (buf : Bytes) (len : length l.queu
         record {
           answers =
               record {
-                agrees = subst (λ (a : Answer). Agrees a (nothing_step s t) l) (sym e) (record { outcome = refl; count = refl; segment = refl; end = refl });
+                agrees = subst (λ (a : Answer). Agrees a (nothing_step s t) l) (sym e) (record { outcome = refl; count = refl; segment = refl; not_zero = none_not_zero; end = refl });
                 stays = λ z. z;
                 changes_nothing = λ why z. record { stream = refl; totals = refl; lent = refl };
                 beside = record { outgoing = λ i l. refl; incoming = λ i l. refl };
@@ -134,7 +140,8 @@ module _ (s : Stream) (t : Totals) (l : Lent) (buf : Bytes) (len : length l.queu
             record {
               outcome = refl;
               count = handed.took.count;
-              segment = ap agree.segment_of handed.size ∙ segment_is (batch e) (head_length e.queue.entries) head_least;
+              segment = ap agree.segment_of handed.size ∙ segment_is (batch e) (head_length e.queue.entries);
+              not_zero = λ z. size_not_zero (batch e) (head_length e.queue.entries) head_least (sym handed.size ∙ z);
               end = handed.took.end;
             }
 

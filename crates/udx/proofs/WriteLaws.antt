@@ -3,15 +3,14 @@ use Prim.Native.Nat.{ℕ}
 use native.Mathlib.Omega.{arith}
 use mathlib.Core.Path.{◌≡◌, refl, sym, ap, ◌∙◌, subst}
 use mathlib.Core.List.{List, [], ◌∷◌}
-use mathlib.Core.Bool.{Bool, true, false, cond, ◌||◌}
+use mathlib.Core.Bool.{Bool, false}
 use lib.Dec.{ltb, eqb}
 use lib.ListN.{length}
 use borrow.Author.Tests.{ltb-false, ne_eqb}
+use Rattle.std.specs.Prelude.{⊤, Result, Ok, Err}
 use Rattle.error.specs.declared.Refusal.{Refusal}
 use Rattle.error.specs.declared.Refusal.TheVariants as refusal
-use Rattle.error.specs.declared.Outcome.TheVariants.{Ready, Waiting, Refused}
-use Rattle.error.specs.declared.Verdict.{Verdict}
-use Rattle.error.specs.declared.Verdict.TheVariants as verdict
+use Rattle.error.specs.declared.Outcome.{Outcome}
 use Rattle.model.specs.Lists.{Bytes, is_empty}
 use Rattle.model.specs.Stream.{End}
 use Rattle.model.specs.Answers.{Answer}
@@ -29,7 +28,7 @@ use Rattle.udx.specs.Agree.{on_records, Agrees, Answers}
 use Rattle.rules_lent.specs.Broken.{broken_records}
 use Rattle.udx_refusals.specs.Verdicts.{verdict_of, write_verdict}
 use Rattle.udx_steps.specs.Write.{outbox_of, outcome_of, written_step}
-use Rattle.udx.proofs.RefusalLaws.{write_list, is-refused, is_clear, acts_on, why_of, clear_line, refused_answers}
+use Rattle.udx.proofs.RefusalLaws.{write_list, is-refused, is_clear, acts_on, why_of, clear_line, refused_answers, none_not_zero}
 use Rattle.udx.proofs.Resting.{ready}
 use Rattle.udx.proofs.Unbroken.{Whole, unbroken, still_laid}
 
@@ -37,24 +36,23 @@ empty_is : (bytes : Bytes) → eqb (length bytes) 0 ≡ is_empty bytes
 empty_is [] = refl
 empty_is (b ∷ bs) = ne_eqb (length (b ∷ bs)) 0 (λ z. (omega arith))
 
-not_refused : (b : Bool) (why : Refusal) → cond b Ready Waiting ≡ Refused why → ⊥
-not_refused true why e = let z : ◌≡◌ {A = ℕ} 0 1 = cc in omega arith
-not_refused false why e = let z : ◌≡◌ {A = ℕ} 0 1 = cc in omega arith
+not_refused : (o : Outcome) (why : Refusal) → Ok o ≡ Err why → ⊥
+not_refused o why e = let z : ◌≡◌ {A = ℕ} 0 1 = cc in omega arith
 
 -- b is the result of refusal 1's test, v the verdict
 module _ (s : Stream) (t : Totals) (l : Lent) (bytes : Bytes) (len : length l.queue ≡ 128) (b : Bool) (is : b ≡ broken_records s t l)
-    (v : Verdict) (h : v ≡ write_verdict b s (eqb (length bytes) 0)) where
+    (v : Result ⊤ Refusal) (h : v ≡ write_verdict b s (eqb (length bytes) 0)) where
   abbrev acts : End → Answer
   acts e = written bytes (write_loop (length bytes) bytes e)
 
   says : v ≡ verdict_of (why_of (write_refusal bytes) s t l)
   says = h ∙ (rw (is, empty_is bytes) (write_list s t l bytes len))
 
-  pub write_refused : (why : Refusal) → v ≡ verdict.Refused why → Answers (write bytes) s t l (refused_step s t why) l
+  pub write_refused : (why : Refusal) → v ≡ Err why → Answers (write bytes) s t l (refused_step s t why) l
   unfolding write
   write_refused why e = refused_answers (write bytes) s t l why (is-refused (write bytes) (write_refusal bytes) acts s t l why (λ e. refl) (sym e ∙ says))
 
-  module _ (clear : v ≡ verdict.Clear) where
+  module _ (clear : v ≡ Ok tt) where
     kept_resting : (b ≡ false) × (ltb 0 s.queue.left ≡ false)
     unfolding write_verdict
     kept_resting =
@@ -87,9 +85,10 @@ module _ (s : Stream) (t : Totals) (l : Lent) (bytes : Bytes) (len : length l.qu
       agreed =
           let count = x.count s l refl refl in
           record {
-            outcome = ap (λ (b : Bool). outcome_of b w.count) (empty_is bytes) ∙ ap (outcome_of (is_empty bytes)) count;
+            outcome = ap (λ (o : Outcome). Ok o) (ap (λ (b : Bool). outcome_of b w.count) (empty_is bytes) ∙ ap (outcome_of (is_empty bytes)) count);
             count = count;
             segment = refl;
+            not_zero = none_not_zero;
             end = x.end s l refl refl;
           }
 
@@ -101,6 +100,6 @@ module _ (s : Stream) (t : Totals) (l : Lent) (bytes : Bytes) (len : length l.qu
           record {
             agrees = subst (λ (a : Answer). Agrees a step after) (sym acting) agreed;
             stays = λ z. still_laid step.stream after stores_same whole.receiver (x.formed whole.words);
-            changes_nothing = λ why z. absurd (not_refused (eqb (length bytes) 0 || ltb 0 w.count) why z);
+            changes_nothing = λ why z. absurd (not_refused (outcome_of (eqb (length bytes) 0) w.count) why z);
             beside = record { outgoing = x.beside; incoming = λ i l. refl };
           }

@@ -1,8 +1,7 @@
 -- A read on the records.
-use Rattle.std.specs.Prelude.{ℕ, ◌≡◌, List, true, length}
+use Rattle.std.specs.Prelude.{ℕ, ◌≡◌, List, true, length, Err}
 use Rattle.error.specs.declared.Refusal.{Refusal}
 use Rattle.error.specs.declared.Refusal.TheVariants.{BrokenRecords}
-use Rattle.error.specs.declared.Outcome.TheVariants.{Refused}
 use Rattle.model.specs.Lists.{Bytes}
 use Rattle.model.specs.Receiving.{read}
 use Rattle.records.specs.declared.Stream.{Stream}
@@ -20,6 +19,6 @@ read_lent held l = record { sent = l.sent; held = held; queue = l.queue; outgoin
 pub record Gives (s : Stream) (t : Totals) (before : Lent) (buf : Bytes) (r : Step) (after : Lent) (buf' : Bytes) : Type 0 where
   pub agrees : Agrees (on_records (read (length buf)) s t before) r after
   pub stays : laid_out s before ≡ true → laid_out r.stream after ≡ true
-  pub changes_nothing : r.outcome ≡ Refused BrokenRecords → Unchanged s t before r after
-  pub same_numbers : (why : Refusal) → r.outcome ≡ Refused why → (r.stream ≡ s) × (r.totals ≡ t)
+  pub changes_nothing : r.outcome ≡ Err BrokenRecords → Unchanged s t before r after
+  pub same_numbers : (why : Refusal) → r.outcome ≡ Err why → (r.stream ≡ s) × (r.totals ≡ t)
   pub bytes : buf' ≡ put buf 0 (on_records (read (length buf)) s t before).bytes

@@ -4,7 +4,7 @@ ghost use Rattle.rules_lent.specs.Broken.{lent};
 ghost use Rattle.udx.specs.Agree.{Answers};
 
 use constants::{HELD_WORDS, QUEUE_WORDS, SENT_WORDS};
-use error::{UdxError, Verdict};
+use error::UdxError;
 use records::{Stream, Totals};
 use rules_lent::broken;
 use udx_refusals::close_verdict;
@@ -30,16 +30,13 @@ pub fn close(
 {
     let one = broken(s, t, sent, held, queue, outgoing, incoming, headers);
     match close_verdict(one, s) {
-        Verdict::Refused(why) => refused(s, t, why),
-        Verdict::Clear => {
-            let before = s.ending;
-            let ending = close_state::terminated(before, UdxError::ConnectionReset);
-            let q = s.queue;
-            let error = ending.error;
+        Err(why) => refused(s, t, why),
+        Ok(()) => {
+            let ending = close_state::terminated(s.ending, UdxError::ConnectionReset);
             let packet = close_state::send_state_packet(
-                q,
+                s.queue,
                 t,
-                error,
+                ending.error,
                 s.ids.remote,
                 s.sender.seq,
                 s.receiver.ack,

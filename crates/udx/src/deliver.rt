@@ -4,8 +4,7 @@ ghost use Rattle.rules_lent.specs.Broken.{lent};
 ghost use Rattle.udx.specs.Agree.{Answers};
 
 use constants::{HELD_WORDS, QUEUE_WORDS, SENT_WORDS, UDX_HEADER_SIZE};
-use error::Verdict;
-use packet::{Decoded, Header};
+use packet::Header;
 use records::{Stream, Totals};
 use rtt::Nanos;
 use rules_lent::broken;
@@ -33,12 +32,12 @@ pub fn deliver(
 {
     let one = broken(s, t, sent, held, queue, outgoing, incoming, headers);
     match early_verdict(one, s, clock) {
-        Verdict::Refused(why) => refused(s, t, why),
-        Verdict::Clear => match Header::from_bytes(datagram) {
-            Decoded::Refused(why) => refused(s, t, why),
-            Decoded::Packet(h) => match header_verdict(s, h, datagram.len() - UDX_HEADER_SIZE) {
-                Verdict::Refused(why) => refused(s, t, why),
-                Verdict::Clear => {
+        Err(why) => refused(s, t, why),
+        Ok(()) => match Header::from_bytes(datagram) {
+            Err(why) => refused(s, t, why),
+            Ok(h) => match header_verdict(s, h, datagram.len() - UDX_HEADER_SIZE) {
+                Err(why) => refused(s, t, why),
+                Ok(()) => {
                     let payload = &datagram[UDX_HEADER_SIZE..];
                     let d = deliver_all::handle_incoming(
                         s, t, clock, h, sent, held, queue, incoming, headers, payload,

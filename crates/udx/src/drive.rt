@@ -4,7 +4,6 @@ ghost use Rattle.rules_lent.specs.Broken.{lent};
 ghost use Rattle.udx.specs.Agree.{Answers};
 
 use constants::{HELD_WORDS, QUEUE_WORDS, SENT_WORDS};
-use error::Verdict;
 use records::{Stream, Totals};
 use rtt::Nanos;
 use rules_lent::broken;
@@ -31,13 +30,9 @@ pub fn drive(
 {
     let one = broken(s, t, sent, held, queue, outgoing, incoming, headers);
     match early_verdict(one, s, clock) {
-        Verdict::Refused(why) => refused(s, t, why),
-        Verdict::Clear => {
-            let ending = s.ending;
-            let error = ending.error;
-            let q = s.queue;
-            let sender = s.sender;
-            if drive_drain::drained(error, q, sender, sent) {
+        Err(why) => refused(s, t, why),
+        Ok(()) => {
+            if drive_drain::drained(s.ending.error, s.queue, s.sender, sent) {
                 return done_step(s, t, clock);
             }
             let p = drive_all::poll_drive(s, t, clock, sent, queue, headers);

@@ -1,6 +1,8 @@
 // The calls of a stream. Each takes any records, checks 01's refusals in order, and returns the stream and the totals after the call.
 // specs/Agree.antt says what it means that an answer on the records agrees with the model's.
 //
+// Words and stores are lent one by one, as from C: a call writes some and only reads others, and a struct would lend all for writing.
+//
 // The refusals that each call can return, in checking order:
 //
 //   open            1 (lengths only), 3, 4

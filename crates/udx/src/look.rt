@@ -26,7 +26,5 @@ pub fn look<'a>(
     if broken(s, t, sent, held, queue, outgoing, incoming, headers) {
         return &outgoing[0..0];
     }
-    let q = s.queue;
-    let sender = s.sender;
-    take_next::look_next(q, sender, sent, queue, outgoing, headers)
+    take_next::look_next(s.queue, s.sender, sent, queue, outgoing, headers)
 }

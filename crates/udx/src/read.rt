@@ -31,7 +31,6 @@ pub fn read(
     if broken(s, t, sent, held, queue, outgoing, incoming, headers) {
         return refused(s, t, Refusal::BrokenRecords);
     }
-    let receiver = s.receiver;
-    let a = read_bytes::read_next(receiver, held, incoming, buf);
+    let a = read_bytes::read_next(s.receiver, held, incoming, buf);
     read_step(s, t, a)
 }

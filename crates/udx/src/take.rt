@@ -3,7 +3,6 @@ ghost use Rattle.rules_lent.specs.Broken.{lent};
 ghost use Rattle.udx.specs.Take.{Hands};
 
 use constants::{HELD_WORDS, QUEUE_WORDS, SENT_WORDS};
-use error::Verdict;
 use records::{Stream, Totals};
 use rules_lent::broken;
 use take_next::next_batch;
@@ -31,14 +30,20 @@ pub fn take(
 {
     let one = broken(s, t, sent, held, queue, outgoing, incoming, headers);
     match take_verdict(one, buf.len()) {
-        Verdict::Refused(why) => refused(s, t, why),
-        Verdict::Clear => {
+        Err(why) => refused(s, t, why),
+        Ok(()) => {
             if 0 < s.queue.left {
-                let q = s.queue;
-                let sender = s.sender;
-                let most = s.ids.segments;
-                let drive = s.clocks.drive;
-                let h = next_batch(q, sender, most, drive, sent, queue, outgoing, headers, buf);
+                let h = next_batch(
+                    s.queue,
+                    s.sender,
+                    s.ids.segments,
+                    s.clocks.drive,
+                    sent,
+                    queue,
+                    outgoing,
+                    headers,
+                    buf,
+                );
                 taken_step(s, t, h)
             } else {
                 nothing(s, t)

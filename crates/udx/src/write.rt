@@ -4,7 +4,6 @@ ghost use Rattle.rules_lent.specs.Broken.{lent};
 ghost use Rattle.udx.specs.Agree.{Answers};
 
 use constants::{HELD_WORDS, QUEUE_WORDS, SENT_WORDS};
-use error::Verdict;
 use records::{Stream, Totals};
 use rules_lent::broken;
 use udx_refusals::write_verdict;
@@ -31,12 +30,18 @@ pub fn write(
     let one = broken(s, t, sent, held, queue, outgoing, incoming, headers);
     let empty = bytes.len() == 0;
     match write_verdict(one, s, empty) {
-        Verdict::Refused(why) => refused(s, t, why),
-        Verdict::Clear => {
+        Err(why) => refused(s, t, why),
+        Ok(()) => {
             let o = outbox(s, t);
-            let remote = s.ids.remote;
-            let ack = s.receiver.ack;
-            let w = write_all::write_pieces(o, remote, ack, sent, queue, outgoing, bytes);
+            let w = write_all::write_pieces(
+                o,
+                s.ids.remote,
+                s.receiver.ack,
+                sent,
+                queue,
+                outgoing,
+                bytes,
+            );
             written(s, w, empty)
         }
     }

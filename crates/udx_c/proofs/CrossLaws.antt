@@ -13,7 +13,7 @@ use Rattle.udx_c_numbers.specs.declared.structs.FlatStep.{FlatStep}
 use Rattle.udx_c_numbers.specs.Bytes.{is_strange}
 use Rattle.udx_c_numbers.specs.Flat.{stream_of, totals_of, flat_step, broken_step}
 use Rattle.udx_c.specs.declared.look.FlatPart.{FlatPart}
-use Rattle.udx_c.specs.Crosses.{Crosses, Called}
+use Rattle.udx_c.specs.Crosses.{Crosses}
 use Rattle.udx_c.specs.Shown.{no_part, flat_part, Looks}
 
 -- a test is not both true and false

@@ -5,9 +5,7 @@ ghost use Rattle.udx.specs.Agree.{Answers};
 ghost use Rattle.udx_c.specs.Crosses.{Crosses};
 
 use constants::{HELD_WORDS, QUEUE_WORDS, SENT_WORDS};
-use udx_c_numbers::{
-    FlatStep, FlatStream, FlatTotals, broken_step, flat_step, strange, stream_of, totals_of,
-};
+use udx_c_numbers::{FlatStep, FlatStream, FlatTotals, broken_step, strange};
 
 pub fn udx_close(
     stream: FlatStream,
@@ -26,12 +24,18 @@ pub fn udx_close(
         (lent sent.now held.now queue.new outgoing.now
         incoming.now headers.new) }
 {
-    let ending = stream.ending;
-    if strange(ending) {
+    if strange(stream.ending) {
         return broken_step(stream, totals);
     }
-    let s = stream_of(stream);
-    let t = totals_of(totals);
-    let r = udx::close::close(s, t, sent, held, queue, outgoing, incoming, headers);
-    flat_step(r)
+    udx::close::close(
+        stream.into(),
+        totals.into(),
+        sent,
+        held,
+        queue,
+        outgoing,
+        incoming,
+        headers,
+    )
+    .into()
 }

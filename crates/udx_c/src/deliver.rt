@@ -6,9 +6,7 @@ ghost use Rattle.udx_c.specs.Crosses.{Crosses};
 
 use constants::{HELD_WORDS, QUEUE_WORDS, SENT_WORDS};
 use rtt::Nanos;
-use udx_c_numbers::{
-    FlatStep, FlatStream, FlatTotals, broken_step, flat_step, strange, stream_of, totals_of,
-};
+use udx_c_numbers::{FlatStep, FlatStream, FlatTotals, broken_step, strange};
 
 pub fn udx_deliver(
     stream: FlatStream,
@@ -29,15 +27,20 @@ pub fn udx_deliver(
         (lent sent.new held.new queue.new outgoing.now incoming.new
         headers.new) }
 {
-    let ending = stream.ending;
-    if strange(ending) {
+    if strange(stream.ending) {
         return broken_step(stream, totals);
     }
-    let s = stream_of(stream);
-    let t = totals_of(totals);
-    let c = Nanos(clock);
-    let r = udx::deliver::deliver(
-        s, t, sent, held, queue, outgoing, incoming, headers, datagram, c,
-    );
-    flat_step(r)
+    udx::deliver::deliver(
+        stream.into(),
+        totals.into(),
+        sent,
+        held,
+        queue,
+        outgoing,
+        incoming,
+        headers,
+        datagram,
+        Nanos(clock),
+    )
+    .into()
 }

@@ -6,9 +6,7 @@ ghost use Rattle.udx_c.specs.Crosses.{Crosses};
 
 use constants::{HELD_WORDS, QUEUE_WORDS, SENT_WORDS};
 use rtt::Nanos;
-use udx_c_numbers::{
-    FlatStep, FlatStream, FlatTotals, broken_step, flat_step, strange, stream_of, totals_of,
-};
+use udx_c_numbers::{FlatStep, FlatStream, FlatTotals, broken_step, strange};
 
 pub fn udx_drive(
     stream: FlatStream,
@@ -28,13 +26,19 @@ pub fn udx_drive(
         (lent sent.new held.now queue.new outgoing.now incoming.now
         headers.new) }
 {
-    let ending = stream.ending;
-    if strange(ending) {
+    if strange(stream.ending) {
         return broken_step(stream, totals);
     }
-    let s = stream_of(stream);
-    let t = totals_of(totals);
-    let c = Nanos(clock);
-    let r = udx::drive::drive(s, t, sent, held, queue, outgoing, incoming, headers, c);
-    flat_step(r)
+    udx::drive::drive(
+        stream.into(),
+        totals.into(),
+        sent,
+        held,
+        queue,
+        outgoing,
+        incoming,
+        headers,
+        Nanos(clock),
+    )
+    .into()
 }

@@ -1,13 +1,13 @@
 // Header coding for C.
 ghost use Rattle.std.specs.Prelude.{◌≡◌};
 ghost use Rattle.packet.specs.Header.{decoded};
-ghost use Rattle.udx_c.specs.Coded.{FlatEncodes, flat_decoded};
+ghost use Rattle.udx_c.specs.Coded.{FlatEncodes, flat_decoded, flat_header, header_of};
 
-use packet::{Decoded, Header};
+use packet::Header;
 use udx_c_numbers::refusal_byte;
 
 #[repr(C)]
-#[derive(Clone, Copy)]
+#[derive(Clone, Copy, Default)]
 pub struct FlatHeader {
     pub stream_id: u32,
     pub recv_win: u32,
@@ -26,48 +26,56 @@ pub struct FlatDecoded {
     pub refusal: u8,
 }
 
+impl From<FlatHeader> for Header {
+    ghost from_gives = { λ f r. r ≡ header_of f };
+
+    fn from(f: FlatHeader) -> Header {
+        Header {
+            typ: f.typ,
+            data_offset: f.data_offset,
+            stream_id: f.stream_id,
+            recv_win: f.recv_win,
+            seq: f.seq,
+            ack: f.ack,
+        }
+    }
+}
+
+impl From<Header> for FlatHeader {
+    ghost from_gives = { λ h r. r ≡ flat_header h };
+
+    fn from(h: Header) -> FlatHeader {
+        FlatHeader {
+            stream_id: h.stream_id,
+            recv_win: h.recv_win,
+            seq: h.seq,
+            ack: h.ack,
+            typ: h.typ,
+            data_offset: h.data_offset,
+        }
+    }
+}
+
 // Returns 0, or the refusal's number.
 pub fn udx_encode(header: FlatHeader, buf: &mut [u8]) -> u8
     ensures { FlatEncodes header buf.old buf.new result }
 {
-    let h = Header {
-        typ: header.typ,
-        data_offset: header.data_offset,
-        stream_id: header.stream_id,
-        recv_win: header.recv_win,
-        seq: header.seq,
-        ack: header.ack,
-    };
-    refusal_byte(h.encode(buf))
+    refusal_byte(Header::from(header).encode(buf))
 }
 
 pub fn udx_decode(buf: &[u8]) -> FlatDecoded
     ensures { result ≡ flat_decoded (decoded buf.now) }
 {
     match Header::from_bytes(buf) {
-        Decoded::Refused(why) => FlatDecoded {
-            header: FlatHeader {
-                stream_id: 0,
-                recv_win: 0,
-                seq: 0,
-                ack: 0,
-                typ: 0,
-                data_offset: 0,
-            },
-            outcome: 4,
-            refusal: error::number(why),
-        },
-        Decoded::Packet(h) => FlatDecoded {
-            header: FlatHeader {
-                stream_id: h.stream_id,
-                recv_win: h.recv_win,
-                seq: h.seq,
-                ack: h.ack,
-                typ: h.typ,
-                data_offset: h.data_offset,
-            },
+        Ok(h) => FlatDecoded {
+            header: h.into(),
             outcome: 0,
             refusal: 0,
+        },
+        Err(why) => FlatDecoded {
+            header: FlatHeader::default(),
+            outcome: 4,
+            refusal: why.number(),
         },
     }
 }

@@ -4,7 +4,7 @@ ghost use Rattle.rules_lent.specs.Broken.{lent};
 ghost use Rattle.udx_c.specs.Shown.{flat_part, no_part, Looks};
 
 use constants::{HELD_WORDS, QUEUE_WORDS, SENT_WORDS};
-use udx_c_numbers::{FlatStream, FlatTotals, flag_byte, strange, stream_of, totals_of};
+use udx_c_numbers::{FlatStream, FlatTotals, strange};
 use udx_c_part::{Part, look_place};
 
 // Where the next datagram is. C cannot be given a subslice, so this is a store, a start and a length.
@@ -28,13 +28,15 @@ fn no_flat_part() -> FlatPart
     }
 }
 
-fn flat_part(p: Part) -> FlatPart
-    ensures { result ≡ flat_part p }
-{
-    FlatPart {
-        start: p.start,
-        length: p.length,
-        header: flag_byte(p.header),
+impl From<Part> for FlatPart {
+    ghost from_gives = { λ p r. r ≡ flat_part p };
+
+    fn from(p: Part) -> FlatPart {
+        FlatPart {
+            start: p.start,
+            length: p.length,
+            header: p.header as u8,
+        }
     }
 }
 
@@ -53,12 +55,18 @@ pub fn udx_look(
         incoming.now headers.now)
         result }
 {
-    let ending = stream.ending;
-    if strange(ending) {
+    if strange(stream.ending) {
         return no_flat_part();
     }
-    let s = stream_of(stream);
-    let t = totals_of(totals);
-    let p = look_place(s, t, sent, held, queue, outgoing, incoming, headers);
-    flat_part(p)
+    look_place(
+        stream.into(),
+        totals.into(),
+        sent,
+        held,
+        queue,
+        outgoing,
+        incoming,
+        headers,
+    )
+    .into()
 }

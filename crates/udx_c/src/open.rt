@@ -2,7 +2,7 @@
 ghost use Rattle.udx_c.specs.Crosses.{FlatOpens};
 
 use rtt::Nanos;
-use udx_c_numbers::{FlatStep, flat_opened};
+use udx_c_numbers::FlatStep;
 
 pub fn udx_open(
     local: u32,
@@ -16,7 +16,14 @@ pub fn udx_open(
     ensures { FlatOpens local remote segments clock outgoing.now incoming.now
         headers.now result }
 {
-    let c = Nanos(clock);
-    let a = udx::open::open(local, remote, segments, c, outgoing, incoming, headers);
-    flat_opened(a)
+    udx::open::open(
+        local,
+        remote,
+        segments,
+        Nanos(clock),
+        outgoing,
+        incoming,
+        headers,
+    )
+    .into()
 }

@@ -6,9 +6,7 @@ ghost use Rattle.udx_c_numbers.specs.Bytes.{is_strange};
 ghost use Rattle.udx_c.specs.Crosses.{Crosses};
 
 use constants::{HELD_WORDS, QUEUE_WORDS, SENT_WORDS};
-use udx_c_numbers::{
-    FlatStep, FlatStream, FlatTotals, broken_step, flat_step, strange, stream_of, totals_of,
-};
+use udx_c_numbers::{FlatStep, FlatStream, FlatTotals, broken_step, strange};
 
 pub fn udx_take(
     stream: FlatStream,
@@ -29,12 +27,19 @@ pub fn udx_take(
         incoming.now headers.now))
         × (is_strange stream.ending ≡ true → buf.new ≡ buf.old) }
 {
-    let ending = stream.ending;
-    if strange(ending) {
+    if strange(stream.ending) {
         return broken_step(stream, totals);
     }
-    let s = stream_of(stream);
-    let t = totals_of(totals);
-    let r = udx::take::take(s, t, sent, held, queue, outgoing, incoming, headers, buf);
-    flat_step(r)
+    udx::take::take(
+        stream.into(),
+        totals.into(),
+        sent,
+        held,
+        queue,
+        outgoing,
+        incoming,
+        headers,
+        buf,
+    )
+    .into()
 }

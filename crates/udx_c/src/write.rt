@@ -5,9 +5,7 @@ ghost use Rattle.udx.specs.Agree.{Answers};
 ghost use Rattle.udx_c.specs.Crosses.{Crosses};
 
 use constants::{HELD_WORDS, QUEUE_WORDS, SENT_WORDS};
-use udx_c_numbers::{
-    FlatStep, FlatStream, FlatTotals, broken_step, flat_step, strange, stream_of, totals_of,
-};
+use udx_c_numbers::{FlatStep, FlatStream, FlatTotals, broken_step, strange};
 
 pub fn udx_write(
     stream: FlatStream,
@@ -27,12 +25,19 @@ pub fn udx_write(
         (lent sent.new held.now queue.new outgoing.new incoming.now
         headers.now) }
 {
-    let ending = stream.ending;
-    if strange(ending) {
+    if strange(stream.ending) {
         return broken_step(stream, totals);
     }
-    let s = stream_of(stream);
-    let t = totals_of(totals);
-    let r = udx::write::write(s, t, sent, held, queue, outgoing, incoming, headers, bytes);
-    flat_step(r)
+    udx::write::write(
+        stream.into(),
+        totals.into(),
+        sent,
+        held,
+        queue,
+        outgoing,
+        incoming,
+        headers,
+        bytes,
+    )
+    .into()
 }

@@ -2,6 +2,7 @@
 use mathlib.Core.Path.{◌≡◌, refl}
 use mathlib.Core.Bool.{Bool, true, false, cond}
 use lib.Dec.{eqb, ltb}
+use Rattle.std.specs.Prelude.{None, Some, Option}
 use Rattle.error.specs.declared.UdxError.{UdxError}
 use Rattle.error.specs.declared.UdxError.TheVariants as error
 use Rattle.records.specs.declared.StreamState.{StreamState}
@@ -12,17 +13,17 @@ use Rattle.udx_c_numbers.specs.Bytes.{error_byte, error_of, state_byte, state_of
 use Rattle.udx_c_numbers.specs.Flat.{stream_of, totals_of, flat_stream, flat_totals}
 use Rattle.udx_c_numbers.specs.RoundTrip.{ComesBack}
 
-error_back : (e : UdxError) → error_of (error_byte e) ≡ e
-error_back error.None = refl
-error_back error.ConnectionReset = refl
-error_back error.UnexpectedEof = refl
-error_back error.TimedOut = refl
+error_back : (e : Option UdxError) → error_of (error_byte e) ≡ e
+error_back None = refl
+error_back (Some error.ConnectionReset) = refl
+error_back (Some error.UnexpectedEof) = refl
+error_back (Some error.TimedOut) = refl
 
-error_known : (e : UdxError) → ltb 3 (error_byte e) ≡ false
-error_known error.None = refl
-error_known error.ConnectionReset = refl
-error_known error.UnexpectedEof = refl
-error_known error.TimedOut = refl
+error_known : (e : Option UdxError) → ltb 3 (error_byte e) ≡ false
+error_known None = refl
+error_known (Some error.ConnectionReset) = refl
+error_known (Some error.UnexpectedEof) = refl
+error_known (Some error.TimedOut) = refl
 
 state_back : (s : StreamState) → state_of (state_byte s) ≡ s
 state_back state.Open = refl

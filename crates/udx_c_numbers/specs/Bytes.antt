@@ -1,5 +1,6 @@
 -- The numbers that represent enums and flags at the C boundary; include/udx.h has the same list.
-use Rattle.std.specs.Prelude.{ℕ, Bool, cond, ◌||◌, eqb, ltb}
+use Rattle.error.specs.declared.Refusal.{Refusal}
+use Rattle.std.specs.Prelude.{ℕ, Bool, cond, ◌||◌, eqb, ltb, Result, Ok, Err, None, Some, Option}
 use Rattle.error.specs.declared.UdxError.{UdxError}
 use Rattle.error.specs.declared.UdxError.TheVariants as error
 use Rattle.error.specs.declared.Outcome.{Outcome}
@@ -10,14 +11,14 @@ use Rattle.records.specs.declared.StreamState.TheVariants as state
 use Rattle.records.specs.declared.Ending.{Ending}
 use Rattle.udx_c_numbers.specs.declared.structs.FlatEnding.{FlatEnding}
 
-abbrev pub error_byte : UdxError → ℕ
-error_byte error.None = 0
-error_byte error.ConnectionReset = 1
-error_byte error.UnexpectedEof = 2
-error_byte error.TimedOut = 3
+abbrev pub error_byte : Option UdxError → ℕ
+error_byte None = 0
+error_byte (Some error.ConnectionReset) = 1
+error_byte (Some error.UnexpectedEof) = 2
+error_byte (Some error.TimedOut) = 3
 
-abbrev pub error_of : ℕ → UdxError
-error_of n = cond (eqb n 0) error.None (cond (eqb n 1) error.ConnectionReset (cond (eqb n 2) error.UnexpectedEof error.TimedOut))
+abbrev pub error_of : ℕ → Option UdxError
+error_of n = cond (eqb n 0) None (cond (eqb n 1) (Some error.ConnectionReset) (cond (eqb n 2) (Some error.UnexpectedEof) (Some error.TimedOut)))
 
 abbrev pub state_byte : StreamState → ℕ
 state_byte state.Open = 0
@@ -39,16 +40,13 @@ abbrev pub flat_ending : Ending → FlatEnding
 flat_ending e = record { error = error_byte e.error; state = state_byte e.state; ended = cond e.ended 1 0 }
 
 -- 01, 'The session program': "outcome (ok, wait, done, none or the refusal's number)"
-abbrev pub outcome_byte : Outcome → ℕ
-outcome_byte outcome.Ready = 0
-outcome_byte outcome.Waiting = 1
-outcome_byte outcome.Done = 2
-outcome_byte outcome.Nothing = 3
-outcome_byte (outcome.Refused why) = 4
+abbrev pub outcome_byte : Result Outcome Refusal → ℕ
+outcome_byte (Ok outcome.Ready) = 0
+outcome_byte (Ok outcome.Waiting) = 1
+outcome_byte (Ok outcome.Done) = 2
+outcome_byte (Ok outcome.Nothing) = 3
+outcome_byte (Err why) = 4
 
-abbrev pub refusal_byte : Outcome → ℕ
-refusal_byte outcome.Ready = 0
-refusal_byte outcome.Waiting = 0
-refusal_byte outcome.Done = 0
-refusal_byte outcome.Nothing = 0
-refusal_byte (outcome.Refused why) = number_of why
+abbrev pub refusal_byte : {A : Type 0} → Result A Refusal → ℕ
+refusal_byte (Ok x) = 0
+refusal_byte (Err why) = number_of why

@@ -1,4 +1,5 @@
 -- Records and steps as plain numbers, group by group.
+use Rattle.std.specs.Prelude.{ℕ, Option, None, Some}
 use Rattle.records.specs.declared.Ids.{Ids}
 use Rattle.records.specs.declared.Sender.{Sender}
 use Rattle.records.specs.declared.Receiver.{Receiver}
@@ -110,13 +111,18 @@ flat_totals t =
       inflight_bytes = t.inflight_bytes;
     }
 
+-- a batch's segment size, 0 if it has none
+abbrev pub segment_number : Option ℕ → ℕ
+segment_number None = 0
+segment_number (Some size) = size
+
 unfoldable pub flat_step : Step → FlatStep
 flat_step r =
     record {
       stream = flat_stream r.stream;
       totals = flat_totals r.totals;
       count = r.count;
-      segment = r.segment;
+      segment = segment_number r.segment;
       outcome = outcome_byte r.outcome;
       refusal = refusal_byte r.outcome;
     }

@@ -14,136 +14,157 @@ ghost use Rattle.udx_c_numbers.specs.Flat.{
   broken_step,
 };
 
-use crate::ending::{flat_ending, outcome_byte, refusal_byte};
+use crate::ending::{outcome_byte, refusal_byte};
 use crate::structs::{
     FlatClocks, FlatIds, FlatQueue, FlatReceiver, FlatSender, FlatStep, FlatStream, FlatTiming,
     FlatTotals,
 };
-use error::Outcome;
 use records::{Clocks, Ids, Opened, Queue, Receiver, Sender, Stream, Timing, Totals};
 use udx_steps::Step;
 
-fn flat_ids(g: Ids) -> FlatIds
-    ensures { result ≡ flat_ids g }
-{
-    FlatIds {
-        local: g.local,
-        remote: g.remote,
-        segments: g.segments,
+impl From<Ids> for FlatIds {
+    ghost from_gives = { λ g r. r ≡ flat_ids g };
+
+    #[tactic(auto, unfolding(crate::specs::Flat::flat_ids))]
+    fn from(g: Ids) -> FlatIds {
+        FlatIds {
+            local: g.local,
+            remote: g.remote,
+            segments: g.segments,
+        }
     }
 }
 
-fn flat_sender(g: Sender) -> FlatSender
-    ensures { result ≡ flat_sender g }
-{
-    FlatSender {
-        seq: g.seq,
-        remote_acked: g.remote_acked,
-        largest_ack: g.largest_ack,
-        inflight: g.inflight,
-        cwnd: g.cwnd,
+impl From<Sender> for FlatSender {
+    ghost from_gives = { λ g r. r ≡ flat_sender g };
+
+    #[tactic(auto, unfolding(crate::specs::Flat::flat_sender))]
+    fn from(g: Sender) -> FlatSender {
+        FlatSender {
+            seq: g.seq,
+            remote_acked: g.remote_acked,
+            largest_ack: g.largest_ack,
+            inflight: g.inflight,
+            cwnd: g.cwnd,
+        }
     }
 }
 
-fn flat_receiver(g: Receiver) -> FlatReceiver
-    ensures { result ≡ flat_receiver g }
-{
-    FlatReceiver {
-        ack: g.ack,
-        read_cursor: g.read_cursor,
-        top: g.top,
+impl From<Receiver> for FlatReceiver {
+    ghost from_gives = { λ g r. r ≡ flat_receiver g };
+
+    #[tactic(auto, unfolding(crate::specs::Flat::flat_receiver))]
+    fn from(g: Receiver) -> FlatReceiver {
+        FlatReceiver {
+            ack: g.ack,
+            read_cursor: g.read_cursor,
+            top: g.top,
+        }
     }
 }
 
-fn flat_queue(g: Queue) -> FlatQueue
-    ensures { result ≡ flat_queue g }
-{
-    FlatQueue {
-        count: g.count,
-        left: g.left,
-        states: g.states,
-        gone: g.gone,
+impl From<Queue> for FlatQueue {
+    ghost from_gives = { λ g r. r ≡ flat_queue g };
+
+    #[tactic(auto, unfolding(crate::specs::Flat::flat_queue))]
+    fn from(g: Queue) -> FlatQueue {
+        FlatQueue {
+            count: g.count,
+            left: g.left,
+            states: g.states,
+            gone: g.gone,
+        }
     }
 }
 
-fn flat_timing(g: Timing) -> FlatTiming
-    ensures { result ≡ flat_timing g }
-{
-    let rtt = g.rtt;
-    let deadline = g.deadline;
-    FlatTiming {
-        srtt: rtt.srtt.0,
-        rttvar: rtt.rttvar.0,
-        rto: rtt.rto.0,
-        deadline: deadline.0.0,
+impl From<Timing> for FlatTiming {
+    ghost from_gives = { λ g r. r ≡ flat_timing g };
+
+    #[tactic(auto, unfolding(crate::specs::Flat::flat_timing))]
+    fn from(g: Timing) -> FlatTiming {
+        FlatTiming {
+            srtt: g.rtt.srtt.0,
+            rttvar: g.rtt.rttvar.0,
+            rto: g.rtt.rto.0,
+            deadline: g.deadline.0.0,
+        }
     }
 }
 
-fn flat_clocks(g: Clocks) -> FlatClocks
-    ensures { result ≡ flat_clocks g }
-{
-    FlatClocks {
-        last: g.last.0,
-        drive: g.drive.0,
+impl From<Clocks> for FlatClocks {
+    ghost from_gives = { λ g r. r ≡ flat_clocks g };
+
+    #[tactic(auto, unfolding(crate::specs::Flat::flat_clocks))]
+    fn from(g: Clocks) -> FlatClocks {
+        FlatClocks {
+            last: g.last.0,
+            drive: g.drive.0,
+        }
     }
 }
 
-pub fn flat_stream(s: Stream) -> FlatStream
-    ensures { result ≡ flat_stream s }
-{
-    FlatStream {
-        ids: flat_ids(s.ids),
-        sender: flat_sender(s.sender),
-        receiver: flat_receiver(s.receiver),
-        queue: flat_queue(s.queue),
-        timing: flat_timing(s.timing),
-        clocks: flat_clocks(s.clocks),
-        ending: flat_ending(s.ending),
+impl From<Stream> for FlatStream {
+    ghost from_gives = { λ s r. r ≡ flat_stream s };
+
+    #[tactic(auto, unfolding(crate::specs::Flat::flat_stream))]
+    fn from(s: Stream) -> FlatStream {
+        FlatStream {
+            ids: s.ids.into(),
+            sender: s.sender.into(),
+            receiver: s.receiver.into(),
+            queue: s.queue.into(),
+            timing: s.timing.into(),
+            clocks: s.clocks.into(),
+            ending: s.ending.into(),
+        }
     }
 }
 
-pub fn flat_totals(t: Totals) -> FlatTotals
-    ensures { result ≡ flat_totals t }
-{
-    FlatTotals {
-        tx_packets: t.tx_packets,
-        tx_bytes: t.tx_bytes,
-        rx_packets: t.rx_packets,
-        rx_bytes: t.rx_bytes,
-        inflight_packets: t.inflight_packets,
-        inflight_bytes: t.inflight_bytes,
+impl From<Totals> for FlatTotals {
+    ghost from_gives = { λ t r. r ≡ flat_totals t };
+
+    #[tactic(auto, unfolding(crate::specs::Flat::flat_totals))]
+    fn from(t: Totals) -> FlatTotals {
+        FlatTotals {
+            tx_packets: t.tx_packets,
+            tx_bytes: t.tx_bytes,
+            rx_packets: t.rx_packets,
+            rx_bytes: t.rx_bytes,
+            inflight_packets: t.inflight_packets,
+            inflight_bytes: t.inflight_bytes,
+        }
     }
 }
 
-pub fn flat_step(a: Step) -> FlatStep
-    ensures { result ≡ flat_step a }
-{
-    let stream = flat_stream(a.stream);
-    let totals = flat_totals(a.totals);
-    let outcome = a.outcome;
-    FlatStep {
-        stream,
-        totals,
-        count: a.count,
-        segment: a.segment,
-        outcome: outcome_byte(outcome),
-        refusal: refusal_byte(outcome),
+impl From<Step> for FlatStep {
+    ghost from_gives = { λ a r. r ≡ flat_step a };
+
+    #[tactic(auto, unfolding(crate::specs::Flat::flat_step))]
+    fn from(a: Step) -> FlatStep {
+        FlatStep {
+            stream: a.stream.into(),
+            totals: a.totals.into(),
+            count: a.count,
+            segment: a.segment.unwrap_or(0),
+            outcome: outcome_byte(a.outcome),
+            refusal: refusal_byte(a.outcome),
+        }
     }
 }
 
-pub fn flat_opened(a: Opened) -> FlatStep
-    ensures { result ≡ flat_opened a }
-{
-    let stream = flat_stream(a.stream);
-    let totals = flat_totals(a.totals);
-    let outcome = a.outcome;
-    FlatStep {
-        stream,
-        totals,
-        count: 0,
-        segment: 0,
-        outcome: outcome_byte(outcome),
-        refusal: refusal_byte(outcome),
+impl From<Opened> for FlatStep {
+    ghost from_gives = { λ a r. r ≡ flat_opened a };
+
+    #[tactic(auto, unfolding(crate::specs::Flat::flat_opened))]
+    fn from(a: Opened) -> FlatStep {
+        FlatStep {
+            stream: a.stream.into(),
+            totals: a.totals.into(),
+            count: 0,
+            segment: 0,
+            outcome: outcome_byte(a.outcome),
+            refusal: refusal_byte(a.outcome),
+        }
     }
 }
 

@@ -1,4 +1,4 @@
-// The records and the answers of a call as plain numbers for C, and back. No function here has a precondition.
+// The records and the answers of a call as plain numbers for C, and back, by From impls. No function here has a precondition.
 #![tactic(auto)]
 
 mod ending;
@@ -6,9 +6,8 @@ mod flatten;
 mod streams;
 mod structs;
 
-pub use ending::{flag_byte, refusal_byte, strange};
-pub use flatten::{broken_step, flat_opened, flat_step};
-pub use streams::{stream_of, totals_of};
+pub use ending::{refusal_byte, strange};
+pub use flatten::broken_step;
 pub use structs::{
     FlatClocks, FlatEnding, FlatIds, FlatQueue, FlatReceiver, FlatSender, FlatStep, FlatStream,
     FlatTiming, FlatTotals,

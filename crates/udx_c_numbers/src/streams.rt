@@ -2,102 +2,125 @@
 ghost use Rattle.std.specs.Prelude.{◌≡◌};
 ghost use Rattle.udx_c_numbers.specs.Flat.{ids_of, sender_of, receiver_of, queue_of, timing_of, clocks_of, stream_of, totals_of};
 
-use crate::ending::ending_of;
 use crate::structs::{
     FlatClocks, FlatIds, FlatQueue, FlatReceiver, FlatSender, FlatStream, FlatTiming, FlatTotals,
 };
 use records::{Clocks, Deadline, Ids, Queue, Receiver, Sender, Stream, Timing, Totals};
 use rtt::{Nanos, Rtt};
 
-fn ids_of(f: FlatIds) -> Ids
-    ensures { result ≡ ids_of f }
-{
-    Ids {
-        local: f.local,
-        remote: f.remote,
-        segments: f.segments,
+impl From<FlatIds> for Ids {
+    ghost from_gives = { λ f r. r ≡ ids_of f };
+
+    #[tactic(auto, unfolding(crate::specs::Flat::ids_of))]
+    fn from(f: FlatIds) -> Ids {
+        Ids {
+            local: f.local,
+            remote: f.remote,
+            segments: f.segments,
+        }
     }
 }
 
-fn sender_of(f: FlatSender) -> Sender
-    ensures { result ≡ sender_of f }
-{
-    Sender {
-        seq: f.seq,
-        remote_acked: f.remote_acked,
-        largest_ack: f.largest_ack,
-        inflight: f.inflight,
-        cwnd: f.cwnd,
+impl From<FlatSender> for Sender {
+    ghost from_gives = { λ f r. r ≡ sender_of f };
+
+    #[tactic(auto, unfolding(crate::specs::Flat::sender_of))]
+    fn from(f: FlatSender) -> Sender {
+        Sender {
+            seq: f.seq,
+            remote_acked: f.remote_acked,
+            largest_ack: f.largest_ack,
+            inflight: f.inflight,
+            cwnd: f.cwnd,
+        }
     }
 }
 
-fn receiver_of(f: FlatReceiver) -> Receiver
-    ensures { result ≡ receiver_of f }
-{
-    Receiver {
-        ack: f.ack,
-        read_cursor: f.read_cursor,
-        top: f.top,
+impl From<FlatReceiver> for Receiver {
+    ghost from_gives = { λ f r. r ≡ receiver_of f };
+
+    #[tactic(auto, unfolding(crate::specs::Flat::receiver_of))]
+    fn from(f: FlatReceiver) -> Receiver {
+        Receiver {
+            ack: f.ack,
+            read_cursor: f.read_cursor,
+            top: f.top,
+        }
     }
 }
 
-fn queue_of(f: FlatQueue) -> Queue
-    ensures { result ≡ queue_of f }
-{
-    Queue {
-        count: f.count,
-        left: f.left,
-        states: f.states,
-        gone: f.gone,
+impl From<FlatQueue> for Queue {
+    ghost from_gives = { λ f r. r ≡ queue_of f };
+
+    #[tactic(auto, unfolding(crate::specs::Flat::queue_of))]
+    fn from(f: FlatQueue) -> Queue {
+        Queue {
+            count: f.count,
+            left: f.left,
+            states: f.states,
+            gone: f.gone,
+        }
     }
 }
 
-fn timing_of(f: FlatTiming) -> Timing
-    ensures { result ≡ timing_of f }
-{
-    let rtt = Rtt {
-        srtt: Nanos(f.srtt),
-        rttvar: Nanos(f.rttvar),
-        rto: Nanos(f.rto),
-    };
-    Timing {
-        rtt,
-        deadline: Deadline(Nanos(f.deadline)),
+impl From<FlatTiming> for Timing {
+    ghost from_gives = { λ f r. r ≡ timing_of f };
+
+    #[tactic(auto, unfolding(crate::specs::Flat::timing_of))]
+    fn from(f: FlatTiming) -> Timing {
+        let rtt = Rtt {
+            srtt: Nanos(f.srtt),
+            rttvar: Nanos(f.rttvar),
+            rto: Nanos(f.rto),
+        };
+        Timing {
+            rtt,
+            deadline: Deadline(Nanos(f.deadline)),
+        }
     }
 }
 
-fn clocks_of(f: FlatClocks) -> Clocks
-    ensures { result ≡ clocks_of f }
-{
-    Clocks {
-        last: Nanos(f.last),
-        drive: Nanos(f.drive),
+impl From<FlatClocks> for Clocks {
+    ghost from_gives = { λ f r. r ≡ clocks_of f };
+
+    #[tactic(auto, unfolding(crate::specs::Flat::clocks_of))]
+    fn from(f: FlatClocks) -> Clocks {
+        Clocks {
+            last: Nanos(f.last),
+            drive: Nanos(f.drive),
+        }
     }
 }
 
-pub fn stream_of(f: FlatStream) -> Stream
-    ensures { result ≡ stream_of f }
-{
-    Stream {
-        ids: ids_of(f.ids),
-        sender: sender_of(f.sender),
-        receiver: receiver_of(f.receiver),
-        queue: queue_of(f.queue),
-        timing: timing_of(f.timing),
-        clocks: clocks_of(f.clocks),
-        ending: ending_of(f.ending),
+impl From<FlatStream> for Stream {
+    ghost from_gives = { λ f r. r ≡ stream_of f };
+
+    #[tactic(auto, unfolding(crate::specs::Flat::stream_of))]
+    fn from(f: FlatStream) -> Stream {
+        Stream {
+            ids: f.ids.into(),
+            sender: f.sender.into(),
+            receiver: f.receiver.into(),
+            queue: f.queue.into(),
+            timing: f.timing.into(),
+            clocks: f.clocks.into(),
+            ending: f.ending.into(),
+        }
     }
 }
 
-pub fn totals_of(f: FlatTotals) -> Totals
-    ensures { result ≡ totals_of f }
-{
-    Totals {
-        tx_packets: f.tx_packets,
-        tx_bytes: f.tx_bytes,
-        rx_packets: f.rx_packets,
-        rx_bytes: f.rx_bytes,
-        inflight_packets: f.inflight_packets,
-        inflight_bytes: f.inflight_bytes,
+impl From<FlatTotals> for Totals {
+    ghost from_gives = { λ f r. r ≡ totals_of f };
+
+    #[tactic(auto, unfolding(crate::specs::Flat::totals_of))]
+    fn from(f: FlatTotals) -> Totals {
+        Totals {
+            tx_packets: f.tx_packets,
+            tx_bytes: f.tx_bytes,
+            rx_packets: f.rx_packets,
+            rx_bytes: f.rx_bytes,
+            inflight_packets: f.inflight_packets,
+            inflight_bytes: f.inflight_bytes,
+        }
     }
 }

@@ -94,6 +94,7 @@ pub struct FlatStep {
     pub stream: FlatStream,
     pub totals: FlatTotals,
     pub count: usize,
+    // A batch's segment size, 0 if it has none.
     pub segment: usize,
     // 0 ok, 1 wait, 2 done, 3 none, 4 refused.
     pub outcome: u8,

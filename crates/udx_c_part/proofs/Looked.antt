@@ -4,13 +4,14 @@ use Prim.Native.Nat.{ℕ, ◌+◌, ◌%◌, ◌≤◌, ◌<◌}
 use native.Mathlib.Omega.{arith}
 use mathlib.Core.Path.{◌≡◌, refl, ap, sym, ◌∙◌}
 use mathlib.Core.List.{List, [], ◌∷◌}
-use mathlib.Core.Option.{none}
+use mathlib.Core.Option as math
+use Rattle.std.specs.Prelude.{Option, None, Some}
 use mathlib.Core.Bool.{Bool, true, false, cond, ◌&&◌, ◌||◌, not, true≢false}
 use lib.Dec.{ltb, eqb}
 use borrow.Author.Tests.{eqb-true}
 use lib.ListN.{length}
-use Rattle.model.specs.Lists.{Bytes}
-use Rattle.model.specs.Slots.{ceiling}
+use Rattle.model.specs.Lists.{Bytes, on}
+use Rattle.model.specs.Slots.{Slots, ceiling, get}
 use Rattle.model.specs.Stream as model
 use Rattle.model.specs.Rules.{rules}
 use Rattle.model.specs.Driving.{look, first_there}
@@ -26,7 +27,9 @@ use Rattle.records.proofs.Cut.{cut_length}
 use Rattle.records.proofs.FormedQueue.{queue_says}
 use Rattle.take_entry.specs.Transmit.{store_seen, is_there}
 use Rattle.take_entry.proofs.TakeOne.{state-bytes, packet_bytes, get_there, there_low, there_high, there_stored}
-use Rattle.take_next.specs.Take.{AllTransmitBounds}
+use Rattle.take_next.specs.declared.Shown.{Shown}
+use Rattle.take_next.specs.declared.Shown.TheVariants.{Stored}
+use Rattle.take_next.specs.Take.{AllTransmitBounds, first_shown, Finds}
 use Rattle.take_next.proofs.RulesTake.{rules_kept}
 use Rattle.rules_lent.specs.Broken.{broken_records}
 use Rattle.udx.specs.Agree.{laid_out}
@@ -34,8 +37,19 @@ use Rattle.udx.specs.Look.{shown_of}
 use Rattle.udx.proofs.Unbroken.{unbroken, still_laid}
 use Rattle.udx.proofs.RefusalLaws.{refusal_one}
 use Rattle.udx_c_part.specs.declared.Part.{Part}
-use Rattle.udx_c_part.specs.Place.{no_part, header_part, packet_part, first_part, looked_part, FindsPart, PartOf, LookedShown}
+use Rattle.udx_c_part.specs.Place.{no_part, header_part, packet_part, first_part, shown_part, looked_part, PartOf, LookedShown}
 use Rattle.udx_c_part.proofs.Parts.{empty_part, part_of, header_within, packet_within}
+
+-- the part of what the search finds is the first part
+part_first : (outgoing : Slots model.Packet) (place : ℕ) (q : List model.Entry) → shown_part (first_shown outgoing place q) ≡ first_part outgoing place q
+part_first outgoing place [] = refl
+part_first outgoing place (model.state b ∷ q) = refl
+part_first outgoing place (model.packet n l ∷ q) = go (get outgoing n) (part_first outgoing place q)
+  where
+    go : (o : math.Option model.Packet) → shown_part (first_shown outgoing place q) ≡ first_part outgoing place q
+        → shown_part (on o (first_shown outgoing place q) (λ p. Some (Stored n (length p.bytes)))) ≡ on o (first_part outgoing place q) (λ p. packet_part n (length p.bytes))
+    go math.none e = e
+    go (math.some p) e = refl
 
 module _ (s : Stream) (t : Totals) (l : Lent) (len : length l.queue ≡ 128) where
   -- refusal 1, a call's first test, does not apply to records that are laid out and obey the rules
@@ -47,22 +61,32 @@ module _ (s : Stream) (t : Totals) (l : Lent) (len : length l.queue ≡ 128) whe
       rest = cond (ltb 0 (seen s t l).queue.left) (first_part (seen s t l).sender.outgoing s.queue.gone (seen s t l).queue.entries) no_part
 
       go : (a : Bool) → laid_out s l ≡ a → (b : Bool) → rules (seen s t l) ≡ b → no_part ≡ cond (a && b) rest no_part
-      go true laid true kept = let e = rw (h, laid, kept) at (refusal_one s t l _ none len refl) in let z : ◌≡◌ {A = ℕ} 0 1 = cc in absurd (omega arith)
+      go true laid true kept = let e = rw (h, laid, kept) at (refusal_one s t l _ math.none len refl) in let z : ◌≡◌ {A = ℕ} 0 1 = cc in absurd (omega arith)
       go true laid false kept = refl
       go false laid b kept = refl
 
-  pub looked_found : broken_records s t l ≡ false → (r : Part) → FindsPart s.queue s.sender l.sent l.queue r → r ≡ looked_part s t l
+  pub looked_found : broken_records s t l ≡ false → (x : Option Shown) → Finds s.queue s.sender l.sent l.queue x → shown_part x ≡ looked_part s t l
   unfolding looked_part seen seen_queue
-  looked_found h r f =
+  looked_found h x f =
       let w = unbroken s t l len h in
-      rw (still_laid s l w.stores w.receiver w.words, w.kept) (f l.outgoing l.headers)
+      rw (still_laid s l w.stores w.receiver w.words, w.kept) (ap shown_part (f l.outgoing l.headers) ∙ either (ltb 0 s.queue.left))
+    where
+      store : Slots model.Packet
+      store = store_seen s.sender l.sent l.outgoing
+
+      q : List model.Entry
+      q = (seen_queue s.queue l.queue l.headers).entries
+
+      either : (b : Bool) → shown_part (cond b (first_shown store s.queue.gone q) None) ≡ cond b (first_part store s.queue.gone q) no_part
+      either true = part_first store s.queue.gone q
+      either false = refl
 
 -- the bytes at the part
 
 module _ (s : Sender) (sent : List ℕ) (outgoing headers : Bytes) (stored : AllTransmitBounds s sent 7) (slots : length outgoing ≡ 44_800) (places : length headers ≡ 1_280)
     (place : ℕ) where
-  abbrev Shown : List ℕ → Type 0
-  Shown ws =
+  abbrev PartShown : List ℕ → Type 0
+  PartShown ws =
       let q = seen_entries headers place ws in
       PartOf (first_there (store_seen s sent outgoing) q) outgoing headers (first_part (store_seen s sent outgoing) place q)
 
@@ -73,20 +97,20 @@ module _ (s : Sender) (sent : List ℕ) (outgoing headers : Bytes) (stored : All
       let short = (stored n (there_low s sent outgoing n z) (there_high s sent outgoing n z) (there_stored s sent outgoing n z)).short in
       part_of outgoing headers (packet_part n k) _ (packet_bytes outgoing (n % 32) k slots (omega arith) short) (packet_within outgoing headers n k short slots)
 
-  first_shown : (ws : List ℕ) → place + state_words ws ≤ 64 → Shown ws
-  first_shown [] h = empty_part outgoing headers
-  first_shown (w ∷ ws) h = go (entry_of w).state refl (first_shown ws)
+  part_shown : (ws : List ℕ) → place + state_words ws ≤ 64 → PartShown ws
+  part_shown [] h = empty_part outgoing headers
+  part_shown (w ∷ ws) h = go (entry_of w).state refl (part_shown ws)
     where
       n : ℕ
       n = (entry_of w).number
 
-      go : (b : Bool) → (entry_of w).state ≡ b → (place + state_words ws ≤ 64 → Shown ws) → Shown (w ∷ ws)
+      go : (b : Bool) → (entry_of w).state ≡ b → (place + state_words ws ≤ 64 → PartShown ws) → PartShown (w ∷ ws)
       go true e rest =
           let below : place < 64 = let k = rw e at h in omega arith in
           rw e (part_of outgoing headers (header_part place) _ (state-bytes headers place places below) (header_within outgoing headers place below places))
       go false e rest = rw e (there (is_there s sent n) refl (rest (rw e at h)))
         where
-          there : (b : Bool) → is_there s sent n ≡ b → Shown ws
+          there : (b : Bool) → is_there s sent n ≡ b → PartShown ws
               → let q = model.packet n (entry_of w).length ∷ seen_entries headers place ws in
               PartOf (first_there (store_seen s sent outgoing) q) outgoing headers (first_part (store_seen s sent outgoing) place q)
           there true z r =
@@ -122,4 +146,4 @@ looked_shown s t l =
     let k = rules_kept s t l kept f (eqb-true _ _ a) (eqb-true _ _ c) in
     let p = f.places in
     let m = f.states in
-    first_shown s.sender l.sent l.outgoing l.headers k.stored k.slots k.places s.queue.gone (entry_words s.queue l.queue) (omega arith))
+    part_shown s.sender l.sent l.outgoing l.headers k.stored k.slots k.places s.queue.gone (entry_words s.queue l.queue) (omega arith))

@@ -1,16 +1,15 @@
 -- Look's answer as numbers: the part of a lent store where the next datagram is (`looked_part`), line by line like the model's `look`; and
 -- that its bytes are those that look shows (`LookedShown`, proved in proofs/Looked.antt).
-use Rattle.std.specs.Prelude.{ℕ, ◌+◌, ◌*◌, ◌%◌, ◌≤◌, ◌≡◌, List, [], ◌∷◌, true, false, cond, ◌&&◌, ltb, length, take, drop}
+use Rattle.std.specs.Prelude.{ℕ, ◌+◌, ◌*◌, ◌%◌, ◌≤◌, ◌≡◌, List, [], ◌∷◌, true, false, cond, ◌&&◌, ltb, length, take, drop, Option, None, Some}
 use Rattle.model.specs.Lists.{Bytes, on}
 use Rattle.model.specs.Slots.{Slots, get}
 use Rattle.model.specs.Stream.{Packet, Entry, state, packet}
 use Rattle.model.specs.Rules.{rules}
-use Rattle.records.specs.declared.Sender.{Sender}
-use Rattle.records.specs.declared.Queue.{Queue}
 use Rattle.records.specs.declared.Stream.{Stream}
 use Rattle.records.specs.declared.Totals.{Totals}
-use Rattle.records.specs.Seen.{Lent, seen, seen_queue}
-use Rattle.take_entry.specs.Transmit.{store_seen}
+use Rattle.records.specs.Seen.{Lent, seen}
+use Rattle.take_next.specs.declared.Shown.{Shown}
+use Rattle.take_next.specs.declared.Shown.TheVariants.{State, Stored}
 use Rattle.udx.specs.Agree.{laid_out}
 use Rattle.udx.specs.Look.{shown_of}
 use Rattle.udx_c_part.specs.declared.Part.{Part}
@@ -42,11 +41,11 @@ looked_part s t l =
     let e = seen s t l in
     cond (laid_out s l && rules e) (cond (ltb 0 e.queue.left) (first_part e.sender.outgoing s.queue.gone e.queue.entries) no_part) no_part
 
--- what the search finds, whatever the stores, since none is lent to it
-abbrev pub FindsPart : Queue → Sender → (sent queue : List ℕ) → Part → Type 0
-FindsPart q s sent queue r =
-    (outgoing headers : Bytes)
-    → r ≡ cond (ltb 0 q.left) (first_part (store_seen s sent outgoing) q.gone (seen_queue q queue headers).entries) no_part
+-- the part of what the search finds
+abbrev pub shown_part : Option Shown → Part
+shown_part None = no_part
+shown_part (Some (State place)) = header_part place
+shown_part (Some (Stored n size)) = packet_part n size
 
 -- its bytes
 

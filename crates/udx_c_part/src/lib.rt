@@ -3,16 +3,14 @@
 #![tactic(auto)]
 
 ghost use Rattle.std.specs.Prelude.{◌≡◌};
-ghost use Rattle.records.specs.Seen.{QueueFormed};
 ghost use Rattle.rules_lent.specs.Broken.{lent};
-ghost use Rattle.udx_c_part.specs.Place.{no_part, header_part, packet_part, FindsPart, looked_part};
+ghost use Rattle.udx_c_part.specs.Place.{no_part, header_part, packet_part, shown_part, looked_part};
 
-use constants::{HELD_WORDS, OUTGOING_SLOT, QUEUE_WORDS, SENT_WORDS, UDX_HEADER_SIZE};
-use records::{Queue, Sender, Stream, Totals, expose_length};
-use records_places::header_at;
+use constants::{HELD_WORDS, QUEUE_WORDS, SENT_WORDS, UDX_HEADER_SIZE};
+use records::{Stream, Totals};
+use records_places::{header_at, stored_at};
 use rules_lent::broken;
-use take_batch::left_entry;
-use take_entry::there;
+use take_next::{Shown, next_shown};
 
 // A part of a lent store.
 #[derive(Clone, Copy)]
@@ -51,31 +49,20 @@ fn packet_part(n: u32, size: u32) -> Part
 {
     Part {
         header: false,
-        start: (n % 32) as usize * OUTGOING_SLOT,
+        start: stored_at(n),
         length: size as usize,
     }
 }
 
-// The part of the first entry left to take whose packet is there. A state packet always is, so the search skips none, and one that it
-// finds is the first one queued, at place `gone`.
-fn next_part(q: Queue, s: Sender, sent: &[u64; SENT_WORDS], queue: &[u64; QUEUE_WORDS]) -> Part
-    requires { QueueFormed q queue.now }
-    ensures { FindsPart q s sent.now queue.now result }
+// The part of a store where the datagram shown is; the empty part if none is.
+fn shown_part(x: Option<Shown>) -> Part
+    ensures { result ≡ shown_part x }
 {
-    expose_length(queue);
-    let mut n: u32 = 0;
-    while n < q.left {
-        let x = left_entry(q, queue, n);
-        if x.state {
-            return header_part(q.gone);
-        }
-        let p = records::get_sent(sent, x.number);
-        if there(s, p, x.number) {
-            return packet_part(x.number, p.length);
-        }
-        n += 1;
+    match x {
+        None => no_part(),
+        Some(Shown::State(place)) => header_part(place),
+        Some(Shown::Stored { number, length }) => packet_part(number, length),
     }
-    no_part()
 }
 
 // "a part of the outgoing store or of the header store, an empty part when nothing is left to take and also in place of refusal 1"
@@ -96,7 +83,5 @@ pub fn look_place(
     if broken(s, t, sent, held, queue, outgoing, incoming, headers) {
         return no_part();
     }
-    let q = s.queue;
-    let sender = s.sender;
-    next_part(q, sender, sent, queue)
+    shown_part(next_shown(s.queue, s.sender, sent, queue))
 }

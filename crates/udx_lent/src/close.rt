@@ -27,10 +27,5 @@ pub fn close(
 {
     let r = udx::close::close(s, *t, sent, held, queue, outgoing, incoming, headers);
     *t = r.totals;
-    Answer {
-        stream: r.stream,
-        outcome: r.outcome,
-        count: r.count,
-        segment: r.segment,
-    }
+    r.into()
 }

@@ -32,10 +32,5 @@ pub fn deliver(
         s, *t, sent, held, queue, outgoing, incoming, headers, datagram, clock,
     );
     *t = r.totals;
-    Answer {
-        stream: r.stream,
-        outcome: r.outcome,
-        count: r.count,
-        segment: r.segment,
-    }
+    r.into()
 }

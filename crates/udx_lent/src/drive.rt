@@ -29,10 +29,5 @@ pub fn drive(
 {
     let r = udx::drive::drive(s, *t, sent, held, queue, outgoing, incoming, headers, clock);
     *t = r.totals;
-    Answer {
-        stream: r.stream,
-        outcome: r.outcome,
-        count: r.count,
-        segment: r.segment,
-    }
+    r.into()
 }

@@ -28,10 +28,5 @@ pub fn take(
 {
     let r = udx::take::take(s, *t, sent, held, queue, outgoing, incoming, headers, buf);
     *t = r.totals;
-    Answer {
-        stream: r.stream,
-        outcome: r.outcome,
-        count: r.count,
-        segment: r.segment,
-    }
+    r.into()
 }

@@ -28,10 +28,5 @@ pub fn write(
 {
     let r = udx::write::write(s, *t, sent, held, queue, outgoing, incoming, headers, bytes);
     *t = r.totals;
-    Answer {
-        stream: r.stream,
-        outcome: r.outcome,
-        count: r.count,
-        segment: r.segment,
-    }
+    r.into()
 }

@@ -3,20 +3,25 @@ ghost use Rattle.std.specs.Prelude.{◌≡◌};
 ghost use Rattle.udx_refusals.specs.Verdicts.{close_verdict};
 
 use constants::STATE_PACKETS;
-use error::{Refusal, Verdict, refuse_if};
+use error::Refusal;
 use records::Stream;
 
 // Refusals 1, 5, 6 and 13, in this order. With nothing left to take no state packet is gone, so `states` is the number queued.
-pub fn close_verdict(broken: bool, s: Stream) -> Verdict
+#[tactic(auto, unfolding(crate::specs::Verdicts::close_verdict))]
+pub fn close_verdict(broken: bool, s: Stream) -> Result<(), Refusal>
     ensures { result ≡ close_verdict broken s }
 {
-    let most = STATE_PACKETS - 1;
-    let full = refuse_if(
-        most <= s.queue.states,
-        Refusal::StateQueueFull,
-        Verdict::Clear,
-    );
-    let left = refuse_if(0 < s.queue.left, Refusal::BatchesLeft, full);
-    let done = refuse_if(s.ending.ended, Refusal::AfterDone, left);
-    refuse_if(broken, Refusal::BrokenRecords, done)
+    if broken {
+        return Err(Refusal::BrokenRecords);
+    }
+    if s.ending.ended {
+        return Err(Refusal::AfterDone);
+    }
+    if 0 < s.queue.left {
+        return Err(Refusal::BatchesLeft);
+    }
+    if STATE_PACKETS - 1 <= s.queue.states {
+        return Err(Refusal::StateQueueFull);
+    }
+    Ok(())
 }

@@ -3,7 +3,7 @@ ghost use Rattle.std.specs.Prelude.{◌≡◌, ◌||◌, ◌^◌, leb, ltb};
 ghost use Rattle.udx_refusals.specs.Verdicts.{early_verdict};
 
 use constants::CLOCK_END;
-use error::{Refusal, Verdict, refuse_if};
+use error::Refusal;
 use records::Stream;
 use rtt::Nanos;
 
@@ -11,19 +11,24 @@ use rtt::Nanos;
 fn bad_clock(clock: Nanos, last: Nanos) -> bool
     ensures { result ≡ (leb (2 ^ 60) clock.0 || ltb clock.0 last.0) }
 {
-    if CLOCK_END <= clock.0 {
-        true
-    } else {
-        clock.0 < last.0
-    }
+    CLOCK_END <= clock.0 || clock.0 < last.0
 }
 // Refusals 1, 4, 5 and 6, in this order.
-pub fn early_verdict(broken: bool, s: Stream, clock: Nanos) -> Verdict
+#[tactic(auto, unfolding(crate::specs::Verdicts::early_verdict))]
+pub fn early_verdict(broken: bool, s: Stream, clock: Nanos) -> Result<(), Refusal>
     ensures { result ≡ early_verdict broken s clock.0 }
 {
-    let bad = bad_clock(clock, s.clocks.last);
-    let left = refuse_if(0 < s.queue.left, Refusal::BatchesLeft, Verdict::Clear);
-    let done = refuse_if(s.ending.ended, Refusal::AfterDone, left);
-    let late = refuse_if(bad, Refusal::BadClock, done);
-    refuse_if(broken, Refusal::BrokenRecords, late)
+    if broken {
+        return Err(Refusal::BrokenRecords);
+    }
+    if bad_clock(clock, s.clocks.last) {
+        return Err(Refusal::BadClock);
+    }
+    if s.ending.ended {
+        return Err(Refusal::AfterDone);
+    }
+    if 0 < s.queue.left {
+        return Err(Refusal::BatchesLeft);
+    }
+    Ok(())
 }

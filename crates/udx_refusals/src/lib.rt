@@ -1,5 +1,5 @@
-// The refusals of each call in 01's order, as a verdict: the first test that holds, or clear. No function has a precondition; the caller
-// does refusal 1's test and passes its result.
+// The refusals of each call in 01's order, as a Result: the first test that holds is the error. No function has a precondition; the
+// caller does refusal 1's test and passes its result.
 #![tactic(auto)]
 
 mod close;

@@ -1,7 +1,8 @@
 -- A delivery that is not refused, on the records.
+use Rattle.std.specs.Prelude.{Ok, None}
 use Rattle.error.specs.declared.Outcome.TheVariants.{Ready}
-use Rattle.deliver_parts.specs.declared.Delivered.{Delivered}
+use Rattle.records.specs.declared.StreamAndTotals.{StreamAndTotals}
 use Rattle.udx_steps.specs.declared.step.Step.{Step}
 
-abbrev pub delivered_step : Delivered → Step
-delivered_step d = record { stream = d.stream; totals = d.totals; outcome = Ready; count = 0; segment = 0 }
+abbrev pub delivered_step : StreamAndTotals → Step
+delivered_step d = record { stream = d.stream; totals = d.totals; outcome = Ok Ready; count = 0; segment = None }

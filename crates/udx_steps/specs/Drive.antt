@@ -1,10 +1,10 @@
 -- A drive that is not refused, on the records: done, or polled.
-use Rattle.std.specs.Prelude.{ℕ, true}
+use Rattle.std.specs.Prelude.{ℕ, true, Ok, None}
 use Rattle.error.specs.declared.Outcome.TheVariants.{Ready, Done}
 use Rattle.records.specs.declared.Stream.{Stream}
 use Rattle.records.specs.declared.Totals.{Totals}
 use Rattle.close_state.specs.State.{with_ending}
-use Rattle.drive_settle.specs.declared.Polled.{Polled}
+use Rattle.records.specs.declared.StreamAndTotals.{StreamAndTotals}
 use Rattle.drive_all.specs.Poll.{driven_at}
 use Rattle.udx_steps.specs.declared.step.Step.{Step}
 
@@ -14,10 +14,10 @@ done_step clock s t =
     record {
       stream = with_ending (record { error = s.ending.error; state = s.ending.state; ended = true }) (driven_at clock s);
       totals = t;
-      outcome = Done;
+      outcome = Ok Done;
       count = 0;
-      segment = 0;
+      segment = None;
     }
 
-abbrev pub polled_step : Polled → Step
-polled_step p = record { stream = p.stream; totals = p.totals; outcome = Ready; count = 0; segment = 0 }
+abbrev pub polled_step : StreamAndTotals → Step
+polled_step p = record { stream = p.stream; totals = p.totals; outcome = Ok Ready; count = 0; segment = None }

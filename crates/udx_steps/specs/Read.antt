@@ -1,5 +1,6 @@
 -- What a read answers, and its step.
-use Rattle.std.specs.Prelude.{Bool, cond}
+use Rattle.error.specs.declared.Refusal.{Refusal}
+use Rattle.std.specs.Prelude.{Bool, cond, Result, Ok, Option, None}
 use Rattle.error.specs.Answers.{error_or}
 use Rattle.error.specs.declared.UdxError.{UdxError}
 use Rattle.error.specs.declared.Outcome.{Outcome}
@@ -11,8 +12,8 @@ use Rattle.read_bytes.specs.declared.Read.{Read}
 use Rattle.udx_steps.specs.declared.step.Step.{Step}
 
 -- 01, call 6: "Ready only if a packet was finished, else the error, else waiting"
-abbrev pub outcome_of : (finished : Bool) → UdxError → Outcome
-outcome_of finished error = cond finished Ready (error_or error Waiting)
+abbrev pub outcome_of : (finished : Bool) → Option UdxError → Result Outcome Refusal
+outcome_of finished error = cond finished (Ok Ready) (error_or error Waiting)
 
 -- the stream with another receiver
 abbrev pub read_stream : Receiver → Stream → Stream
@@ -30,4 +31,4 @@ read_stream r s =
 -- the step of a read
 abbrev pub read_step : Stream → Totals → Read → Step
 read_step s t a =
-    record { stream = read_stream a.receiver s; totals = t; outcome = outcome_of a.finished s.ending.error; count = a.count; segment = 0 }
+    record { stream = read_stream a.receiver s; totals = t; outcome = outcome_of a.finished s.ending.error; count = a.count; segment = None }

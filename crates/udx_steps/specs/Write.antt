@@ -1,5 +1,5 @@
 -- A write that is not refused, on the records.
-use Rattle.std.specs.Prelude.{ℕ, Bool, cond, ◌||◌, ltb}
+use Rattle.std.specs.Prelude.{ℕ, Bool, cond, ◌||◌, ltb, Ok, None}
 use Rattle.error.specs.declared.Outcome.{Outcome}
 use Rattle.error.specs.declared.Outcome.TheVariants.{Ready, Waiting}
 use Rattle.records.specs.declared.Stream.{Stream}
@@ -19,4 +19,4 @@ outcome_of empty count = cond (empty || ltb 0 count) Ready Waiting
 -- the step of a write, after its pieces went
 abbrev pub written_step : Stream → Written → (empty : Bool) → Step
 written_step s w empty =
-    record { stream = with_outbox w.outbox s; totals = w.outbox.totals; outcome = outcome_of empty w.count; count = w.count; segment = 0 }
+    record { stream = with_outbox w.outbox s; totals = w.outbox.totals; outcome = Ok (outcome_of empty w.count); count = w.count; segment = None }

@@ -2,7 +2,7 @@
 ghost use Rattle.std.specs.Prelude.{◌≡◌};
 ghost use Rattle.udx_steps.specs.Close.{closed_step};
 
-use crate::step::Step;
+use crate::step::{Step, bare_step};
 use close_state::Queued;
 use error::Outcome;
 use records::{Ending, Stream};
@@ -11,17 +11,10 @@ use records::{Ending, Stream};
 pub fn closed_step(s: Stream, ending: Ending, sent: Queued) -> Step
     ensures { result ≡ closed_step s ending sent }
 {
-    let mut stream = s;
-    stream.ending = ending;
-    let queue = sent.queue;
-    stream.queue = queue;
-    let totals = sent.totals;
-    let outcome = Outcome::Ready;
-    Step {
-        stream,
-        totals,
-        outcome,
-        count: 0,
-        segment: 0,
-    }
+    let stream = Stream {
+        ending,
+        queue: sent.queue,
+        ..s
+    };
+    bare_step(stream, sent.totals, Ok(Outcome::Ready))
 }

@@ -2,21 +2,12 @@
 ghost use Rattle.std.specs.Prelude.{◌≡◌};
 ghost use Rattle.udx_steps.specs.Deliver.{delivered_step};
 
-use crate::step::Step;
-use deliver_all::Delivered;
+use crate::step::{Step, bare_step};
 use error::Outcome;
+use records::StreamAndTotals;
 
-pub fn delivered_step(d: Delivered) -> Step
+pub fn delivered_step(d: StreamAndTotals) -> Step
     ensures { result ≡ delivered_step d }
 {
-    let stream = d.stream;
-    let totals = d.totals;
-    let outcome = Outcome::Ready;
-    Step {
-        stream,
-        totals,
-        outcome,
-        count: 0,
-        segment: 0,
-    }
+    bare_step(d.stream, d.totals, Ok(Outcome::Ready))
 }

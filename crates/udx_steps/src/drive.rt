@@ -2,47 +2,29 @@
 ghost use Rattle.std.specs.Prelude.{◌≡◌};
 ghost use Rattle.udx_steps.specs.Drive.{done_step, polled_step};
 
-use crate::step::Step;
-use drive_all::Polled;
+use crate::step::{Step, bare_step};
 use error::Outcome;
-use records::{Ending, Stream, Totals};
+use records::{Ending, Stream, StreamAndTotals, Totals};
 use rtt::Nanos;
 
 // "the answer is done and the stream has ended": an accepted drive, which settles nothing.
 pub fn done_step(s: Stream, t: Totals, clock: Nanos) -> Step
     ensures { result ≡ done_step clock.0 s t }
 {
-    let before = s.ending;
-    let error = before.error;
-    let state = before.state;
     let ending = Ending {
-        error,
-        state,
         ended: true,
+        ..s.ending
     };
-    let mut stream = drive_all::clocked(s, clock);
-    stream.ending = ending;
-    let outcome = Outcome::Done;
-    Step {
-        stream,
-        totals: t,
-        outcome,
-        count: 0,
-        segment: 0,
-    }
+    let stream = Stream {
+        ending,
+        ..drive_all::clocked(s, clock)
+    };
+    bare_step(stream, t, Ok(Outcome::Done))
 }
 
-pub fn polled_step(p: Polled) -> Step
+// The same step as a delivery's, under a name of its own: what a drive answers is decided here, and for a delivery there.
+pub fn polled_step(p: StreamAndTotals) -> Step
     ensures { result ≡ polled_step p }
 {
-    let stream = p.stream;
-    let totals = p.totals;
-    let outcome = Outcome::Ready;
-    Step {
-        stream,
-        totals,
-        outcome,
-        count: 0,
-        segment: 0,
-    }
+    bare_step(p.stream, p.totals, Ok(Outcome::Ready))
 }

@@ -1,5 +1,5 @@
 // What a call answers.
-ghost use Rattle.std.specs.Prelude.{◌≡◌};
+ghost use Rattle.std.specs.Prelude.{◌≡◌, None};
 ghost use Rattle.udx_steps.specs.Steps.{refused_step};
 
 use error::{Outcome, Refusal};
@@ -10,21 +10,29 @@ use records::{Stream, Totals};
 pub struct Step {
     pub stream: Stream,
     pub totals: Totals,
-    pub outcome: Outcome,
+    pub outcome: Result<Outcome, Refusal>,
     // Bytes accepted, taken or put.
     pub count: usize,
-    // A batch's segment size, 0 if it has none.
-    pub segment: usize,
+    // A batch's segment size, if it has one.
+    pub segment: Option<usize>,
 }
-// "Each returns its number and changes nothing"
-pub fn refused(stream: Stream, totals: Totals, why: Refusal) -> Step
-    ensures { result ≡ refused_step stream totals why }
+
+// A step that counts no bytes and has no segment size: the whole of most steps, and the start of the others.
+pub(crate) fn bare_step(stream: Stream, totals: Totals, outcome: Result<Outcome, Refusal>) -> Step
+    ensures { result ≡ record { stream = stream; totals = totals; outcome = outcome; count = 0; segment = None } }
 {
     Step {
         stream,
         totals,
-        outcome: Outcome::Refused(why),
+        outcome,
         count: 0,
-        segment: 0,
+        segment: None,
     }
+}
+
+// "Each returns its number and changes nothing"
+pub fn refused(stream: Stream, totals: Totals, why: Refusal) -> Step
+    ensures { result ≡ refused_step stream totals why }
+{
+    bare_step(stream, totals, Err(why))
 }

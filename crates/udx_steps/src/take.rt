@@ -2,7 +2,7 @@
 ghost use Rattle.std.specs.Prelude.{◌≡◌};
 ghost use Rattle.udx_steps.specs.Take.{nothing_step, taken_step};
 
-use crate::step::Step;
+use crate::step::{Step, bare_step};
 use error::Outcome;
 use records::{Stream, Totals};
 use take_next::Handed;
@@ -11,26 +11,20 @@ use take_next::Handed;
 pub fn nothing(stream: Stream, totals: Totals) -> Step
     ensures { result ≡ nothing_step stream totals }
 {
-    Step {
-        stream,
-        totals,
-        outcome: Outcome::Nothing,
-        count: 0,
-        segment: 0,
-    }
+    bare_step(stream, totals, Ok(Outcome::Nothing))
 }
+
 // The step of a take that handed out a batch.
 pub fn taken_step(s: Stream, totals: Totals, h: Handed) -> Step
     ensures { result ≡ taken_step s totals h }
 {
-    let mut stream = s;
-    let queue = h.queue;
-    stream.queue = queue;
-    let outcome = Outcome::Ready;
     Step {
-        stream,
+        stream: Stream {
+            queue: h.queue,
+            ..s
+        },
         totals,
-        outcome,
+        outcome: Ok(Outcome::Ready),
         count: h.count,
         segment: h.segment,
     }

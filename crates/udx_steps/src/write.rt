@@ -3,7 +3,7 @@ ghost use Rattle.std.specs.Prelude.{◌≡◌};
 ghost use Rattle.write_piece.specs.Piece.{with_outbox};
 ghost use Rattle.udx_steps.specs.Write.{outbox_of, outcome_of, written_step};
 
-use crate::step::Step;
+use crate::step::{Step, bare_step};
 use error::Outcome;
 use records::{Stream, Totals};
 use write_all::{Outbox, Written};
@@ -12,24 +12,20 @@ use write_all::{Outbox, Written};
 fn write_outcome(empty: bool, count: usize) -> Outcome
     ensures { result ≡ outcome_of empty count }
 {
-    if empty {
-        return Outcome::Ready;
-    }
-    if 0 < count {
+    if empty || 0 < count {
         Outcome::Ready
     } else {
         Outcome::Waiting
     }
 }
+
 // The parts of a stream that pieces change.
 pub fn outbox(s: Stream, totals: Totals) -> Outbox
     ensures { result ≡ outbox_of s totals }
 {
-    let sender = s.sender;
-    let queue = s.queue;
     Outbox {
-        sender,
-        queue,
+        sender: s.sender,
+        queue: s.queue,
         totals,
     }
 }
@@ -37,26 +33,20 @@ pub fn outbox(s: Stream, totals: Totals) -> Outbox
 fn with_outbox(s: Stream, o: Outbox) -> Stream
     ensures { result ≡ with_outbox o s }
 {
-    let mut stream = s;
-    let sender = o.sender;
-    stream.sender = sender;
-    let queue = o.queue;
-    stream.queue = queue;
-    stream
+    Stream {
+        sender: o.sender,
+        queue: o.queue,
+        ..s
+    }
 }
+
 // The step of a write, after its pieces went.
 pub fn written(s: Stream, w: Written, empty: bool) -> Step
     ensures { result ≡ written_step s w empty }
 {
-    let after = w.outbox;
-    let stream = with_outbox(s, after);
-    let totals = after.totals;
-    let outcome = write_outcome(empty, w.count);
+    let stream = with_outbox(s, w.outbox);
     Step {
-        stream,
-        totals,
-        outcome,
         count: w.count,
-        segment: 0,
+        ..bare_step(stream, w.outbox.totals, Ok(write_outcome(empty, w.count)))
     }
 }

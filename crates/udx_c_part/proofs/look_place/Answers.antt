@@ -13,8 +13,8 @@ returns-then-broken c =
     let (is, len) = c.broken.ensures in
     c.no_part.ensures ∙ looked_broken a.s a.t l len (sym is ∙ c.if-broken.true)
 
-pub next_part-requires : goal.next_part-requires
-next_part-requires c =
+pub next_shown-requires : goal.next_shown-requires
+next_shown-requires c =
     let a = c.args in
     let l : Lent = lent a.sent.now a.held.now a.queue.now a.outgoing.now a.incoming.now a.headers.now in
     let (is, len) = c.broken.ensures in
@@ -25,4 +25,4 @@ returns c =
     let a = c.args in
     let l : Lent = lent a.sent.now a.held.now a.queue.now a.outgoing.now a.incoming.now a.headers.now in
     let (is, len) = c.broken.ensures in
-    looked_found a.s a.t l len (sym is ∙ c.if-broken.false) c.next_part.result c.next_part.ensures
+    c.shown_part.ensures ∙ looked_found a.s a.t l len (sym is ∙ c.if-broken.false) c.next_shown.result c.next_shown.ensures

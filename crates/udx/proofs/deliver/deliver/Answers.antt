@@ -12,41 +12,41 @@ handle_incoming-d-requires c =
     let a = c.args in
     let l : Lent = lent a.sent.now a.held.now a.queue.now a.outgoing.now a.incoming.now a.headers.now in
     let (is, len) = c.broken-one.ensures in
-    deliverable a.s a.t l len a.datagram.now a.clock.0 c.broken-one.result c.early_verdict.result is c.early_verdict.ensures c.in-Clear.is _ (sym c.from_bytes.ensures ∙ c.in-Packet.is)
-    c.header_verdict.result c.header_verdict.ensures c.in-Clear-header_verdict.is _ (rest_of a.datagram.now)
+    deliverable a.s a.t l len a.datagram.now a.clock.0 c.broken-one.result c.early_verdict.result is c.early_verdict.ensures c.in-Ok.is _ (sym c.from_bytes.ensures ∙ c.in-Ok-from_bytes.is)
+    c.header_verdict.result c.header_verdict.ensures c.in-Ok-header_verdict.is _ (rest_of a.datagram.now)
 
-pub returns-in-Refused : goal.returns-in-Refused
-returns-in-Refused c =
+pub returns-in-Err : goal.returns-in-Err
+returns-in-Err c =
     let a = c.args in
     let l : Lent = lent a.sent.now a.held.now a.queue.now a.outgoing.now a.incoming.now a.headers.now in
     let (is, len) = c.broken-one.ensures in
-    rw c.refused.ensures (early_refused a.s a.t l len a.datagram.now a.clock.0 c.broken-one.result c.early_verdict.result is c.early_verdict.ensures _ c.in-Refused.is)
+    rw c.refused.ensures (early_refused a.s a.t l len a.datagram.now a.clock.0 c.broken-one.result c.early_verdict.result is c.early_verdict.ensures _ c.in-Err.is)
 
-pub returns-in-Refused-from_bytes : goal.returns-in-Refused-from_bytes
-returns-in-Refused-from_bytes c =
+pub returns-in-Err-from_bytes : goal.returns-in-Err-from_bytes
+returns-in-Err-from_bytes c =
     let a = c.args in
     let l : Lent = lent a.sent.now a.held.now a.queue.now a.outgoing.now a.incoming.now a.headers.now in
     let (is, len) = c.broken-one.ensures in
-    rw c.refused-in-Refused-from_bytes.ensures
-    (header_refused a.s a.t l len a.datagram.now a.clock.0 c.broken-one.result c.early_verdict.result is c.early_verdict.ensures c.in-Clear.is _ (sym c.from_bytes.ensures ∙ c.in-Refused-from_bytes.is))
+    rw c.refused-in-Err-from_bytes.ensures
+    (header_refused a.s a.t l len a.datagram.now a.clock.0 c.broken-one.result c.early_verdict.result is c.early_verdict.ensures c.in-Ok.is _ (sym c.from_bytes.ensures ∙ c.in-Err-from_bytes.is))
 
-pub returns-in-Refused-header_verdict : goal.returns-in-Refused-header_verdict
-returns-in-Refused-header_verdict c =
+pub returns-in-Err-header_verdict : goal.returns-in-Err-header_verdict
+returns-in-Err-header_verdict c =
     let a = c.args in
     let l : Lent = lent a.sent.now a.held.now a.queue.now a.outgoing.now a.incoming.now a.headers.now in
     let (is, len) = c.broken-one.ensures in
-    rw c.refused-in-Refused-header_verdict.ensures
-    (fields_refused a.s a.t l len a.datagram.now a.clock.0 c.broken-one.result c.early_verdict.result is c.early_verdict.ensures c.in-Clear.is _ (sym c.from_bytes.ensures ∙ c.in-Packet.is)
-    c.header_verdict.result c.header_verdict.ensures _ c.in-Refused-header_verdict.is)
+    rw c.refused-in-Err-header_verdict.ensures
+    (fields_refused a.s a.t l len a.datagram.now a.clock.0 c.broken-one.result c.early_verdict.result is c.early_verdict.ensures c.in-Ok.is _ (sym c.from_bytes.ensures ∙ c.in-Ok-from_bytes.is)
+    c.header_verdict.result c.header_verdict.ensures _ c.in-Err-header_verdict.is)
 
-pub returns-in-Clear-header_verdict : goal.returns-in-Clear-header_verdict
-returns-in-Clear-header_verdict c =
+pub returns-in-Ok-header_verdict : goal.returns-in-Ok-header_verdict
+returns-in-Ok-header_verdict c =
     let a = c.args in
     let l : Lent = lent a.sent.now a.held.now a.queue.now a.outgoing.now a.incoming.now a.headers.now in
     let (is, len) = c.broken-one.ensures in
     rw c.delivered_step.ensures
-    (deliver_answers a.s a.t l len a.datagram.now a.clock.0 c.broken-one.result c.early_verdict.result is c.early_verdict.ensures c.in-Clear.is _ (sym c.from_bytes.ensures ∙ c.in-Packet.is)
-    c.header_verdict.result c.header_verdict.ensures c.in-Clear-header_verdict.is _ (rest_of a.datagram.now) c.handle_incoming-d.result _ _ _ _ _
+    (deliver_answers a.s a.t l len a.datagram.now a.clock.0 c.broken-one.result c.early_verdict.result is c.early_verdict.ensures c.in-Ok.is _ (sym c.from_bytes.ensures ∙ c.in-Ok-from_bytes.is)
+    c.header_verdict.result c.header_verdict.ensures c.in-Ok-header_verdict.is _ (rest_of a.datagram.now) c.handle_incoming-d.result _ _ _ _ _
     c.handle_incoming-d.ensures (search rules) (search rules))
 
 pub overflow_sub-datagram : goal.overflow_sub-datagram
@@ -54,7 +54,7 @@ overflow_sub-datagram c =
     let a = c.args in
     let l : Lent = lent a.sent.now a.held.now a.queue.now a.outgoing.now a.incoming.now a.headers.now in
     let (is, len) = c.broken-one.ensures in
-    let long = long_enough a.s a.t l len a.datagram.now a.clock.0 c.broken-one.result c.early_verdict.result is c.early_verdict.ensures c.in-Clear.is _ (sym c.from_bytes.ensures ∙ c.in-Packet.is) in
+    let long = long_enough a.s a.t l len a.datagram.now a.clock.0 c.broken-one.result c.early_verdict.result is c.early_verdict.ensures c.in-Ok.is _ (sym c.from_bytes.ensures ∙ c.in-Ok-from_bytes.is) in
     omega arith
 
 pub slice_bounds-payload-count : goal.slice_bounds-payload-count
@@ -62,7 +62,7 @@ slice_bounds-payload-count c =
     let a = c.args in
     let l : Lent = lent a.sent.now a.held.now a.queue.now a.outgoing.now a.incoming.now a.headers.now in
     let (is, len) = c.broken-one.ensures in
-    let long = long_enough a.s a.t l len a.datagram.now a.clock.0 c.broken-one.result c.early_verdict.result is c.early_verdict.ensures c.in-Clear.is _ (sym c.from_bytes.ensures ∙ c.in-Packet.is) in
+    let long = long_enough a.s a.t l len a.datagram.now a.clock.0 c.broken-one.result c.early_verdict.result is c.early_verdict.ensures c.in-Ok.is _ (sym c.from_bytes.ensures ∙ c.in-Ok-from_bytes.is) in
     omega arith
 
 pub slice_bounds-payload-start : goal.slice_bounds-payload-start
@@ -70,5 +70,5 @@ slice_bounds-payload-start c =
     let a = c.args in
     let l : Lent = lent a.sent.now a.held.now a.queue.now a.outgoing.now a.incoming.now a.headers.now in
     let (is, len) = c.broken-one.ensures in
-    let long = long_enough a.s a.t l len a.datagram.now a.clock.0 c.broken-one.result c.early_verdict.result is c.early_verdict.ensures c.in-Clear.is _ (sym c.from_bytes.ensures ∙ c.in-Packet.is) in
+    let long = long_enough a.s a.t l len a.datagram.now a.clock.0 c.broken-one.result c.early_verdict.result is c.early_verdict.ensures c.in-Ok.is _ (sym c.from_bytes.ensures ∙ c.in-Ok-from_bytes.is) in
     omega arith

@@ -9,7 +9,7 @@ drained-requires c =
     let a = c.args in
     let l : Lent = lent a.sent.now a.held.now a.queue.now a.outgoing.now a.incoming.now a.headers.now in
     let (is, len) = c.broken-one.ensures in
-    at_rest a.s a.t l len a.clock.0 c.broken-one.result c.early_verdict.result is c.early_verdict.ensures c.in-Clear.is
+    at_rest a.s a.t l len a.clock.0 c.broken-one.result c.early_verdict.result is c.early_verdict.ensures c.in-Ok.is
 
 pub returns-then-drained : goal.returns-then-drained
 returns-then-drained c =
@@ -17,21 +17,21 @@ returns-then-drained c =
     let l : Lent = lent a.sent.now a.held.now a.queue.now a.outgoing.now a.incoming.now a.headers.now in
     let (is, len) = c.broken-one.ensures in
     rw c.done_step.ensures
-    (drive_done a.s a.t l len a.clock.0 c.broken-one.result c.early_verdict.result is c.early_verdict.ensures c.in-Clear.is c.drained.result c.drained.ensures c.if-drained.true)
+    (drive_done a.s a.t l len a.clock.0 c.broken-one.result c.early_verdict.result is c.early_verdict.ensures c.in-Ok.is c.drained.result c.drained.ensures c.if-drained.true)
 
 pub poll_drive-p-requires : goal.poll_drive-p-requires
 poll_drive-p-requires c =
     let a = c.args in
     let l : Lent = lent a.sent.now a.held.now a.queue.now a.outgoing.now a.incoming.now a.headers.now in
     let (is, len) = c.broken-one.ensures in
-    drivable a.s a.t l len a.clock.0 c.broken-one.result c.early_verdict.result is c.early_verdict.ensures c.in-Clear.is
+    drivable a.s a.t l len a.clock.0 c.broken-one.result c.early_verdict.result is c.early_verdict.ensures c.in-Ok.is
 
-pub returns-in-Refused : goal.returns-in-Refused
-returns-in-Refused c =
+pub returns-in-Err : goal.returns-in-Err
+returns-in-Err c =
     let a = c.args in
     let l : Lent = lent a.sent.now a.held.now a.queue.now a.outgoing.now a.incoming.now a.headers.now in
     let (is, len) = c.broken-one.ensures in
-    rw c.refused.ensures (drive_refused a.s a.t l len a.clock.0 c.broken-one.result c.early_verdict.result is c.early_verdict.ensures _ c.in-Refused.is)
+    rw c.refused.ensures (drive_refused a.s a.t l len a.clock.0 c.broken-one.result c.early_verdict.result is c.early_verdict.ensures _ c.in-Err.is)
 
 pub returns-else-drained : goal.returns-else-drained
 returns-else-drained c =
@@ -39,5 +39,5 @@ returns-else-drained c =
     let l : Lent = lent a.sent.now a.held.now a.queue.now a.outgoing.now a.incoming.now a.headers.now in
     let (is, len) = c.broken-one.ensures in
     rw c.polled_step.ensures
-    (drive_answers a.s a.t l len a.clock.0 c.broken-one.result c.early_verdict.result is c.early_verdict.ensures c.in-Clear.is c.drained.result c.drained.ensures
+    (drive_answers a.s a.t l len a.clock.0 c.broken-one.result c.early_verdict.result is c.early_verdict.ensures c.in-Ok.is c.drained.result c.drained.ensures
     c.poll_drive-p.result _ _ _ c.poll_drive-p.ensures c.if-drained.false)

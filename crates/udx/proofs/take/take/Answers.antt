@@ -9,14 +9,14 @@ next_batch-h-requires c =
     let a = c.args in
     let l : Lent = lent a.sent.now a.held.now a.queue.now a.outgoing.now a.incoming.now a.headers.now in
     let (is, len) = c.broken-one.ensures in
-    take_sendable a.s a.t l a.buf.now len _ is _ c.take_verdict.ensures c.in-Clear.is c.if-s-gt0.true
+    take_sendable a.s a.t l a.buf.now len _ is _ c.take_verdict.ensures c.in-Ok.is c.if-s-gt0.true
 
-pub returns-in-Refused : goal.returns-in-Refused
-returns-in-Refused c =
+pub returns-in-Err : goal.returns-in-Err
+returns-in-Err c =
     let a = c.args in
     let l : Lent = lent a.sent.now a.held.now a.queue.now a.outgoing.now a.incoming.now a.headers.now in
     let (is, len) = c.broken-one.ensures in
-    rw c.refused.ensures (take_refused a.s a.t l a.buf.now len _ is _ c.take_verdict.ensures _ c.in-Refused.is)
+    rw c.refused.ensures (take_refused a.s a.t l a.buf.now len _ is _ c.take_verdict.ensures _ c.in-Err.is)
 
 pub returns-then-s-gt0 : goal.returns-then-s-gt0
 returns-then-s-gt0 c =
@@ -24,7 +24,7 @@ returns-then-s-gt0 c =
     let l : Lent = lent a.sent.now a.held.now a.queue.now a.outgoing.now a.incoming.now a.headers.now in
     let (is, len) = c.broken-one.ensures in
     rw c.taken_step.ensures
-    (take_batch a.s a.t l a.buf.now len _ is _ c.take_verdict.ensures c.in-Clear.is c.if-s-gt0.true
+    (take_batch a.s a.t l a.buf.now len _ is _ c.take_verdict.ensures c.in-Ok.is c.if-s-gt0.true
     c.next_batch-h.result _ _ c.next_batch-h.ensures)
 
 pub returns-else-s-gt0 : goal.returns-else-s-gt0
@@ -33,4 +33,4 @@ returns-else-s-gt0 c =
     let l : Lent = lent a.sent.now a.held.now a.queue.now a.outgoing.now a.incoming.now a.headers.now in
     let (is, len) = c.broken-one.ensures in
     rw c.nothing.ensures
-    (take_nothing a.s a.t l a.buf.now len _ is _ c.take_verdict.ensures c.in-Clear.is c.if-s-gt0.false)
+    (take_nothing a.s a.t l a.buf.now len _ is _ c.take_verdict.ensures c.in-Ok.is c.if-s-gt0.false)
