@@ -5,16 +5,18 @@ use Prim.Native.Nat.{ℕ, ◌<◌}
 use native.Mathlib.Omega.{arith}
 use mathlib.Core.Path.{◌≡◌, refl, sym, ap, ◌∙◌, subst}
 use mathlib.Core.List.{List, [], ◌∷◌}
-use mathlib.Core.Logic.{◌⊎◌, inl, inr}
+use mathlib.Core.Logic.{◌≢◌, ◌⊎◌, inl, inr}
 use mathlib.Core.Option.{none, some}
-use mathlib.Core.Bool.{Bool, true, false, cond, ◌&&◌, ◌||◌, not, true≢false}
+use mathlib.Core.Bool.{Bool, true, false, cond, ◌&&◌, not, true≢false}
 use lib.Dec.{ltb, eqb}
 use lib.ListN.{length}
-use borrow.Author.Tests.{ne_eqb, ltb-true}
+use borrow.Author.Tests.{ltb-true}
+use Rattle.std.specs.Prelude as rust
+use Rattle.std.specs.Prelude.{Result, Ok, Err, None, Some}
 use Rattle.error.specs.declared.Refusal.{Refusal}
 use Rattle.error.specs.declared.Outcome.{Outcome}
-use Rattle.error.specs.declared.Outcome.TheVariants.{Ready, Waiting, Done, Nothing, Refused}
-use Rattle.model.specs.Lists.{Bytes, is_empty}
+use Rattle.error.specs.declared.Outcome.TheVariants.{Ready, Waiting, Done, Nothing}
+use Rattle.model.specs.Lists.{Bytes}
 use Rattle.model.specs.Slots.{Slots}
 use Rattle.model.specs.RulesKept.{EntryKept}
 use Rattle.model.specs.Stream as stream
@@ -36,7 +38,7 @@ use Rattle.records.specs.Open.{fresh_stream, fresh_totals, stores_test, open_why
 use Rattle.udx_steps.specs.declared.step.Step.{Step}
 use Rattle.udx_steps.specs.Steps.{refused_step}
 use Rattle.udx.specs.Agree.{laid_out, on_records, segment_of, Agrees, Answers}
-use Rattle.udx.proofs.RefusalLaws.{refused_answers}
+use Rattle.udx.proofs.RefusalLaws.{none_not_zero, refused_answers}
 use Rattle.promise.specs.Runs.{Records, seen_of, Request, to_write, to_deliver, to_drive, to_take, to_read, to_close, Event, left, Did, OpenedBy, handed_out}
 use Rattle.promise.specs.Possible.{WordLengths, Openable, Makes, EveryRun}
 use Rattle.promise.proofs.LaidOut.{laid, LaidAs, laid_as}
@@ -46,33 +48,32 @@ use Rattle.promise.proofs.EveryRead.{ready_acts, give}
 -- a refused call changes nothing
 
 abbrev Quiet : End → Answer → Type 0
-Quiet e a = (why : Refusal) → a.outcome ≡ Refused why → a ≡ refused why e
+Quiet e a = (why : Refusal) → a.outcome ≡ Err why → a ≡ refused why e
 
 same_refusal : (e : End) (w : Refusal) → Quiet e (refused w e)
 same_refusal e w why h = let z : w ≡ why = cc in ap (λ x. refused x e) z
 
-acts_quiet : (e : End) (a : Answer) → ((why : Refusal) → a.outcome ≡ Refused why → ⊥) → Quiet e a
+acts_quiet : (e : End) (a : Answer) → ((why : Refusal) → a.outcome ≡ Err why → ⊥) → Quiet e a
 acts_quiet e a h why z = absurd (h why z)
 
-waiting_acts : (why : Refusal) → Waiting ≡ Refused why → ⊥
+waiting_acts : (why : Refusal) → (Ok Waiting) ≡ Err why → ⊥
 waiting_acts why z = let y : ◌≡◌ {A = ℕ} 0 1 = cc in omega arith
 
-done_acts : (why : Refusal) → Done ≡ Refused why → ⊥
+done_acts : (why : Refusal) → (Ok Done) ≡ Err why → ⊥
 done_acts why z = let y : ◌≡◌ {A = ℕ} 0 1 = cc in omega arith
 
-nothing_acts : (why : Refusal) → Nothing ≡ Refused why → ⊥
+nothing_acts : (why : Refusal) → (Ok Nothing) ≡ Err why → ⊥
 nothing_acts why z = let y : ◌≡◌ {A = ℕ} 0 1 = cc in omega arith
 
-write_acts : (b : Bool) (why : Refusal) → cond b Ready Waiting ≡ Refused why → ⊥
-write_acts true = ready_acts
-write_acts false = waiting_acts
+write_acts : (o : Outcome) (why : Refusal) → Ok o ≡ Err why → ⊥
+write_acts o why z = let y : ◌≡◌ {A = ℕ} 0 1 = cc in omega arith
 
 write_quiet : (bytes : Bytes) (e : End) → Quiet e (model.write bytes e)
 unfolding model.write
 write_quiet bytes e =
     let w = model.write_loop (length bytes) bytes e in
     by_gate (Quiet e) (model.write_refusal bytes e) e (model.written bytes w) (same_refusal e)
-    (λ z. acts_quiet e (model.written bytes w) (write_acts (is_empty bytes || ltb 0 w.count)))
+    (λ z. acts_quiet e (model.written bytes w) (write_acts (model.write_outcome bytes w.count)))
 
 deliver_quiet : (datagram : Bytes) (clock : ℕ) (e : End) → Quiet e (model_in.deliver datagram clock e)
 unfolding model_in.deliver
@@ -98,13 +99,13 @@ close_quiet : (e : End) → Quiet e (model.close e)
 unfolding model.close
 close_quiet e = by_gate (Quiet e) (model.close_refusal e) e _ (same_refusal e) (λ z. acts_quiet e _ ready_acts)
 
--- a batch's segment size as the number in a step
+-- a batch's segment size as a step has it
 
 abbrev Segment : Answer → Type 0
-Segment a = (n : ℕ) × (segment_of n ≡ a.segment)
+Segment a = (size : rust.Option ℕ) × (segment_of size ≡ a.segment) × (size ≢ Some 0)
 
 no_segment : (a : Answer) → a.segment ≡ none → Segment a
-no_segment a e = (0, sym e)
+no_segment a e = (None, sym e, none_not_zero)
 
 write_segment : (bytes : Bytes) (e : End) → Segment (model.write bytes e)
 unfolding model.write
@@ -134,12 +135,12 @@ head_some outgoing [] h l = absurd (omega arith)
 head_some outgoing (stream.state b ∷ q) h l = let z = h.0 in omega arith
 head_some outgoing (stream.packet n m ∷ q) h l = let z = h.0.0 in omega arith
 
-segment_number : (k m : ℕ) → 0 < m → (n : ℕ) × (segment_of n ≡ model_out.segment_of k m)
-segment_number k m l = (cond (eqb k 1) 0 m, go (eqb k 1))
+segment_size : (k m : ℕ) → 0 < m → (size : rust.Option ℕ) × (segment_of size ≡ model_out.segment_of k m) × (size ≢ Some 0)
+segment_size k m l = go (eqb k 1)
   where
-    go : (b : Bool) → segment_of (cond b 0 m) ≡ cond b none (some m)
-    go true = refl
-    go false = rw (ne_eqb m 0 (λ z. (omega arith))) refl
+    go : (b : Bool) → (size : rust.Option ℕ) × (segment_of size ≡ cond b none (some m)) × (size ≢ Some 0)
+    go true = (None, refl, none_not_zero)
+    go false = (Some m, refl, λ e. let z : m ≡ 0 = cc in omega arith)
 
 left_some : (e : End) → Left true e → ltb 0 e.queue.left ≡ true → 0 < length e.queue.entries
 left_some e (at_rest z h) t = let l = ltb-true 0 e.queue.left t in absurd (omega arith)
@@ -149,19 +150,19 @@ take_segment : (room : ℕ) (e : End) → Invariant e → Segment (model_out.tak
 unfolding model_out.take
 take_segment room e g =
     let t = model_out.take_answer (model_out.take_loop (model_out.batch e) e.queue.entries e) e in
-    by_gate Segment (model_out.take_refusal room e) e (cond (ltb 0 e.queue.left) t (answered Nothing e)) (λ why. (0, refl))
+    by_gate Segment (model_out.take_refusal room e) e (cond (ltb 0 e.queue.left) t (answered Nothing e)) (λ why. (None, refl, none_not_zero))
     (λ z.
     by-test Segment (ltb 0 e.queue.left) t (answered Nothing e)
-    (λ l. segment_number (model_out.batch e) (model_out.head_length e.queue.entries) (head_some e.sender.outgoing e.queue.entries g.facts.entries (left_some e g.left l)))
-    (λ l. (0, refl)))
+    (λ l. segment_size (model_out.batch e) (model_out.head_length e.queue.entries) (head_some e.sender.outgoing e.queue.entries g.facts.entries (left_some e g.left l)))
+    (λ l. (None, refl, none_not_zero)))
 
 -- refused or not
-refusal-of : (o : Outcome) → ((why : Refusal) × (o ≡ Refused why)) ⊎ ((why : Refusal) → o ≡ Refused why → ⊥)
-refusal-of Ready = inr ready_acts
-refusal-of Waiting = inr waiting_acts
-refusal-of Done = inr done_acts
-refusal-of Nothing = inr nothing_acts
-refusal-of (Refused why) = inl (why, refl)
+refusal-of : (o : Result Outcome Refusal) → ((why : Refusal) × (o ≡ Err why)) ⊎ ((why : Refusal) → o ≡ Err why → ⊥)
+refusal-of (Ok Ready) = inr ready_acts
+refusal-of (Ok Waiting) = inr waiting_acts
+refusal-of (Ok Done) = inr done_acts
+refusal-of (Ok Nothing) = inr nothing_acts
+refusal-of (Err why) = inl (why, refl)
 
 stores_fit : (differ formed : Bool) → (not differ && formed) ≡ true → differ ≡ false
 stores_fit true formed e = absurd (true≢false (sym e))
@@ -194,7 +195,7 @@ module _ (x : Records) (out : laid_out x.stream x.lent ≡ true) (keeps : Invari
       r : Step
       r = record { stream = y.stream; totals = y.totals; outcome = a.outcome; count = a.count; segment = segment.0 }
 
-      go : ((why : Refusal) × (a.outcome ≡ Refused why)) ⊎ ((why : Refusal) → a.outcome ≡ Refused why → ⊥) → Answered x call
+      go : ((why : Refusal) × (a.outcome ≡ Err why)) ⊎ ((why : Refusal) → a.outcome ≡ Err why → ⊥) → Answered x call
       go (inl (why, e)) =
           record {
             step = refused_step x.stream x.totals why;
@@ -210,7 +211,7 @@ module _ (x : Records) (out : laid_out x.stream x.lent ≡ true) (keeps : Invari
                 record {
                   agrees =
                       subst (λ (z : Answer). Agrees z r y.lent) (sym (on_laid x out call))
-                      (record { outcome = refl; count = refl; segment = segment.1; end = new.seen });
+                      (record { outcome = refl; count = refl; segment = segment.1; not_zero = segment.2; end = new.seen });
                   stays = λ z. new.out;
                   changes_nothing = λ why z. absurd (acts why z);
                   beside = new.beside;
@@ -282,7 +283,7 @@ make_all (q ∷ qs) x h =
 -- an open that is not refused
 module _ (local remote segments clock : ℕ) (l : Lent) (h : Openable segments clock l) where
   abbrev pub fresh_opened : Opened
-  fresh_opened = record { outcome = Ready; stream = fresh_stream local remote segments clock; totals = fresh_totals }
+  fresh_opened = record { outcome = Ok Ready; stream = fresh_stream local remote segments clock; totals = fresh_totals }
 
   why_none : open_why segments clock l.outgoing l.incoming l.headers ≡ none
   unfolding open_why open_refusal

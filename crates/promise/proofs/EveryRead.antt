@@ -10,12 +10,14 @@ use mathlib.Core.Bool.{Bool, true, false, cond}
 use lib.Dec.{ltb}
 use lib.ListN.{length, take, length-drop, length-set}
 use borrow.Author.Tests.{ltb-true, ltb-false}
+use Rattle.std.specs.Prelude as rust
+use Rattle.std.specs.Prelude.{Ok, Err, None, Some}
 use Rattle.error.specs.Answers.{error_or}
 use Rattle.error.specs.declared.UdxError.{UdxError}
 use Rattle.error.specs.declared.UdxError.TheVariants as error
 use Rattle.error.specs.declared.Refusal.{Refusal}
 use Rattle.error.specs.declared.Refusal.TheVariants.{BrokenRecords}
-use Rattle.error.specs.declared.Outcome.TheVariants.{Ready, Waiting, Refused}
+use Rattle.error.specs.declared.Outcome.TheVariants.{Ready, Waiting}
 use Rattle.model.specs.Lists.{Bytes}
 use Rattle.model.specs.Slots.{ceiling, get, insert}
 use Rattle.model.specs.Stream as model
@@ -40,6 +42,7 @@ use Rattle.records.proofs.SeenIncoming.{held_in, with_held, get_incoming, get_pa
 use Rattle.udx_steps.specs.declared.step.Step.{Step}
 use Rattle.udx.specs.Agree.{laid_out, on_records, Agrees}
 use Rattle.udx.specs.Read.{read_lent, Gives}
+use Rattle.udx.proofs.RefusalLaws.{none_not_zero}
 use Rattle.promise.specs.Runs.{Records, seen_of}
 use Rattle.promise.specs.Possible.{WordLengths}
 use Rattle.promise.proofs.LaidOut.{laid, LaidAs, laid_as}
@@ -62,14 +65,14 @@ unfolding read_loop
 loop_whole k room r h e l = rw (e, l) refl
 
 -- no refusal other than the stream's error
-other : (x : UdxError) → error_or x Waiting ≡ Refused BrokenRecords → ⊥
-other error.None q = let z : ◌≡◌ {A = ℕ} 0 1 = cc in omega arith
-other error.ConnectionReset q = let z : ◌≡◌ {A = ℕ} 0 1 = cc in omega arith
-other error.UnexpectedEof q = let z : ◌≡◌ {A = ℕ} 0 1 = cc in omega arith
-other error.TimedOut q = let z : ◌≡◌ {A = ℕ} 0 1 = cc in omega arith
+other : (x : rust.Option UdxError) → error_or x Waiting ≡ Err BrokenRecords → ⊥
+other None q = let z : ◌≡◌ {A = ℕ} 0 1 = cc in omega arith
+other (Some error.ConnectionReset) q = let z : ◌≡◌ {A = ℕ} 0 1 = cc in omega arith
+other (Some error.UnexpectedEof) q = let z : ◌≡◌ {A = ℕ} 0 1 = cc in omega arith
+other (Some error.TimedOut) q = let z : ◌≡◌ {A = ℕ} 0 1 = cc in omega arith
 
 -- a call that is ready is not refused
-pub ready_acts : (why : Refusal) → Ready ≡ Refused why → ⊥
+pub ready_acts : (why : Refusal) → (Ok Ready) ≡ Err why → ⊥
 ready_acts why z = let y : ◌≡◌ {A = ℕ} 0 1 = cc in omega arith
 
 held_says : (b : Bool) (v h : model.Held) → cond b (some v) none ≡ some h → (b ≡ true) × (v ≡ h)
@@ -102,14 +105,14 @@ module _ (x : Records) (out : laid_out x.stream x.lent ≡ true) (stores : store
   pub finds_none : get (seen_of x).receiver.incoming (seen_of x).receiver.read_cursor ≡ none → Given x buf
   unfolding read_next
   finds_none e =
-      let r : Step = record { stream = x.stream; totals = x.totals; outcome = read_outcome false (seen_of x); count = 0; segment = 0 } in
+      let r : Step = record { stream = x.stream; totals = x.totals; outcome = read_outcome false (seen_of x); count = 0; segment = None } in
       record {
         step = r;
         after = x.lent;
         buf' = put_all;
         gives =
             record {
-              agrees = agrees_with (got_none (seen_of x).receiver) r x.lent (loop_none 31 (length buf) (seen_of x).receiver e) (record { outcome = refl; count = refl; segment = refl; end = refl });
+              agrees = agrees_with (got_none (seen_of x).receiver) r x.lent (loop_none 31 (length buf) (seen_of x).receiver e) (record { outcome = refl; count = refl; segment = refl; not_zero = none_not_zero; end = refl });
               stays = λ z. z;
               changes_nothing = λ z. record { stream = refl; totals = refl; lent = refl };
               same_numbers = λ why z. (refl, refl);
@@ -125,9 +128,9 @@ module _ (x : Records) (out : laid_out x.stream x.lent ≡ true) (stores : store
       let next : Invariant a.end = call_keeps (read_call (length buf)) (seen_of x) keeps in
       let y = laid a.end next x.lent stores in
       let new : LaidAs a.end x.lent y = laid_as a.end next x.lent stores in
-      let ready : a.outcome ≡ Ready = ap (λ (a : Answer). a.outcome) acts ∙ ap (λ (b : Bool). read_outcome b (seen_of x)) e in
+      let ready : a.outcome ≡ (Ok Ready) = ap (λ (a : Answer). a.outcome) acts ∙ ap (λ (b : Bool). read_outcome b (seen_of x)) e in
       let none_is : a.segment ≡ none = ap (λ (a : Answer). a.segment) acts in
-      let r : Step = record { stream = y.stream; totals = y.totals; outcome = Ready; count = a.count; segment = 0 } in
+      let r : Step = record { stream = y.stream; totals = y.totals; outcome = Ok Ready; count = a.count; segment = None } in
       record {
         step = r;
         after = y.lent;
@@ -136,7 +139,7 @@ module _ (x : Records) (out : laid_out x.stream x.lent ≡ true) (stores : store
             record {
               agrees =
                   subst (λ (z : Answer). Agrees z r y.lent) (sym (on_laid x out (read (length buf))))
-                  (record { outcome = sym ready; count = refl; segment = sym none_is; end = new.seen });
+                  (record { outcome = sym ready; count = refl; segment = sym none_is; not_zero = none_not_zero; end = new.seen });
               stays = λ z. new.out;
               changes_nothing = λ z. absurd (ready_acts BrokenRecords z);
               same_numbers = λ why z. absurd (ready_acts why z);
@@ -212,7 +215,7 @@ module _ (x : Records) (out : laid_out x.stream x.lent ≡ true) (stores : store
     unfolding read_next seen laid_out
     puts_front =
         let r : Step =
-        record { stream = x.stream; totals = x.totals; outcome = read_outcome false (seen_of x); count = length (take (length buf) (rest h)); segment = 0 } in
+        record { stream = x.stream; totals = x.totals; outcome = read_outcome false (seen_of x); count = length (take (length buf) (rest h)); segment = None } in
         let after = read_lent held' x.lent in
         record {
           step = r;
@@ -226,6 +229,7 @@ module _ (x : Records) (out : laid_out x.stream x.lent ≡ true) (stores : store
                       outcome = refl;
                       count = refl;
                       segment = refl;
+                      not_zero = none_not_zero;
                       end = ap (λ z. with_receiver (record { ack = x.stream.receiver.ack; read_cursor = cursor; incoming = z }) (seen_of x)) incoming_moved;
                     });
                 stays = λ z. z;

@@ -5,11 +5,16 @@ use native.Mathlib.Omega.{arith}
 use mathlib.Core.Path.{◌≡◌, refl, ap, ap₂, sym, ◌∙◌, subst}
 use mathlib.Core.List.{List, [], ◌++◌}
 use mathlib.Core.Option.{Option, none, some}
-use mathlib.Core.Bool.{Bool, true, false, cond, ◌&&◌, true≢false}
+use mathlib.Core.Bool.{Bool, true, false, ◌&&◌}
 use lib.Dec.{ltb, leb}
 use lib.ListN.{length, get_or, length-append, get_or-append}
 use lib.Seq.{get_or-append-add, ext_get_or}
 use borrow.Author.Tests.{le-leb, lt-ltb, eq-eqb, ne_eqb}
+use Rattle.std.specs.Prelude as rust
+use Rattle.std.specs.Prelude.{None, Some}
+use Rattle.std.specs.Option.{ForSome}
+use Rattle.rtt.specs.declared.nanos.Nanos.{Nanos}
+use Rattle.rtt.specs.Estimate.{nanos}
 use Rattle.model.specs.Lists.{Bytes, on}
 use Rattle.model.specs.Slots.{Slots, Numbered, ceiling}
 use Rattle.model.specs.Stream as model
@@ -19,7 +24,7 @@ use Rattle.records_words.specs.Words.{sent_of, sent_in, sent_word, sent_time, is
 use Rattle.records_words.proofs.WordLaws.{sent_back, no_sent, held_back, no_held}
 use Rattle.records.specs.Table.{table}
 use Rattle.records.specs.Cut.{cut, outgoing_slot, incoming_slot}
-use Rattle.records.specs.Seen.{numbered, packet_of, in_slot, outgoing_slot_at, seen_outgoing, held_payload, incoming_slot_at, seen_incoming}
+use Rattle.records.specs.Seen.{numbered, seen_time, packet_of, in_slot, outgoing_slot_at, seen_outgoing, held_payload, incoming_slot_at, seen_incoming}
 use Rattle.records.specs.Beside.{Stay, sent_size, held_size}
 use Rattle.records.proofs.Table.{table_length, table_get}
 use Rattle.records.proofs.Cut.{out_is, in_is}
@@ -40,6 +45,9 @@ not_there false b c d e = refl
 
 -- stored packets
 
+abbrev time_for : Option ℕ → rust.Option Nanos
+time_for o = on o None (λ t. Some (nanos t))
+
 abbrev sent_for : Numbered model.Packet → Sent
 sent_for x =
     record {
@@ -47,8 +55,7 @@ sent_for x =
       length = length x.value.bytes;
       transmits = x.value.marks.transmits;
       waiting = x.value.marks.waiting;
-      timed = on x.value.marks.sent false (λ t. true);
-      sent_at = record { 0 = on x.value.marks.sent 0 (λ t. t) };
+      sent_at = time_for x.value.marks.sent;
     }
 
 abbrev sent_word_for : Option (Numbered model.Packet) → ℕ
@@ -76,17 +83,13 @@ stored_in remote_acked seq store i p =
     numbered (leb remote_acked p.number && (ltb p.number seq && (in_slot i p.number && is_stored p p.number))) p.number (packet_of store i p)
 
 module _ (remote_acked seq i : ℕ) where
-  time_fits : (o : Option ℕ) → ((t : ℕ) → o ≡ some t → t < 2 ^ 60) → on o 0 (λ t. t) + 1 < 2 ^ 64
-  time_fits none h = omega arith
-  time_fits (some t) h = let z = h t refl in omega arith
+  time_fits : (o : Option ℕ) → ((t : ℕ) → o ≡ some t → t < 2 ^ 60) → ForSome (time_for o) (λ t. t.0 + 1 < 2 ^ 64)
+  time_fits none h u e = absurd (cc)
+  time_fits (some t) h u e = let z = h t refl in let c : nanos t ≡ u = cc in rw (← c) (omega arith)
 
-  no_time : (o : Option ℕ) → on o false (λ t. true) ≡ false → on o 0 (λ t. t) ≡ 0
-  no_time none e = refl
-  no_time (some t) e = absurd (true≢false e)
-
-  sent_again : (o : Option ℕ) → cond (on o false (λ t. true)) (some (on o 0 (λ t. t))) none ≡ o
-  sent_again none = refl
-  sent_again (some t) = refl
+  time_again : (o : Option ℕ) → seen_time (time_for o) ≡ o
+  time_again none = refl
+  time_again (some t) = refl
 
   short_of : (o : Option (Numbered model.Packet)) → ((x : Numbered model.Packet) → o ≡ some x → StoredFits remote_acked seq i x) → length (bytes_for o) ≤ 1_400
   short_of none h = omega arith
@@ -97,7 +100,7 @@ module _ (remote_acked seq i : ℕ) where
     word_back x h =
         let a = h.short in
         let b = h.below in
-        sent_back (sent_for x) (omega arith) h.transmits (omega arith) (time_fits x.value.marks.sent h.time) (no_time x.value.marks.sent)
+        sent_back (sent_for x) (omega arith) h.transmits (omega arith) (time_fits x.value.marks.sent h.time)
 
     size_of : (o : Option (Numbered model.Packet)) → ((x : Numbered model.Packet) → o ≡ some x → StoredFits remote_acked seq i x)
         → (sent_of (sent_word_for o) (sent_time_for o)).length ≡ length (bytes_for o)
@@ -115,7 +118,7 @@ module _ (remote_acked seq i : ℕ) where
         let f = h x refl in
         let n = x.number in
         ap (stored_in remote_acked seq store i) (word_back x f)
-        ∙ rw (le-leb remote_acked n f.from, lt-ltb n seq f.below, eq-eqb (n % ceiling) i f.in-slot, ne_eqb (length x.value.bytes) 0 (λ z. let y = f.some_bytes in omega arith), eq-eqb n n refl, c, sent_again x.value.marks.sent) refl
+        ∙ rw (le-leb remote_acked n f.from, lt-ltb n seq f.below, eq-eqb (n % ceiling) i f.in-slot, ne_eqb (length x.value.bytes) 0 (λ z. let y = f.some_bytes in omega arith), eq-eqb n n refl, c, time_again x.value.marks.sent) refl
 
 -- two tables, one after the other
 two_tables : (k : ℕ) (f g : ℕ → ℕ) (i : ℕ) → i < k → (get_or (table k f ++ table k g) i 0 ≡ f i) × (get_or (table k f ++ table k g) (k + i) 0 ≡ g i)

@@ -1,6 +1,6 @@
 -- A lent store with new bytes at the front of each of its pieces and the rest kept: cutting a piece returns its new bytes, and past them
 -- nothing changed. The new store is its pieces joined, all of one length.
-use Prim.Native.Nat.{ℕ, zero, suc, ◌+◌, ◌-◌, ◌*◌, ◌≤◌, ◌<◌}
+use Prim.Native.Nat.{ℕ, zero, suc, ◌+◌, ◌*◌, ◌≤◌, ◌<◌}
 use native.Mathlib.Nat.{mul-le-mul_right, suc-mul}
 use native.Mathlib.Omega.{arith}
 use mathlib.Core.Path.{◌≡◌, ap, ◌∙◌}

@@ -4,6 +4,8 @@ use mathlib.Core.Path.{◌≡◌, refl, sym, ap, ◌∙◌, subst}
 use mathlib.Core.Logic.{inl, inr}
 use mathlib.Core.List.{List, [], ◌∷◌}
 use lib.Dec.{T}
+use Rattle.error.specs.declared.Refusal.{Refusal}
+use Rattle.std.specs.Prelude.{Result}
 use Rattle.error.specs.declared.Outcome.{Outcome}
 use Rattle.model.specs.Answers.{Answer}
 use Rattle.model.specs.Calls.{answer}
@@ -65,7 +67,7 @@ brings_same v x y laid f = go v.request f.1 (ap (λ (a : Answer). a.outcome) (st
     go : (q : Request) → Brings q v.step.outcome y → v.step.outcome ≡ (answer (call_of q) (seen_of x.records)).outcome → model.Brings (call_of q) (seen_side x) (seen_side y)
     go (to_write bytes) b e = tt
     go (to_deliver datagram clock) (inl m) e = inl m
-    go (to_deliver datagram clock) (inr t) e = inr (subst (λ (o : Outcome). T (is_refused o)) e t)
+    go (to_deliver datagram clock) (inr t) e = inr (subst (λ (o : Result Outcome Refusal). T (is_refused o)) e t)
     go (to_drive clock) b e = tt
     go (to_take buf) b e = tt
     go (to_read buf) b e = tt

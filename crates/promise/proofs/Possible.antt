@@ -1,14 +1,14 @@
 -- Whatever two ends of the model do over a line, two ends on the records can do: each call can be made (EveryCall.antt), answers as the
 -- model's does and so brings what the model's brings. A piece that the model carries is then carried on the records.
-use Prim.Native.Nat.{ℕ, ◌≤◌, min}
-use native.Mathlib.Omega.{arith}
+use Prim.Native.Nat.{ℕ, ◌≤◌}
 use mathlib.Core.Path.{◌≡◌, refl, sym, ap, ap₂, ◌∙◌, subst}
 use mathlib.Core.Logic.{inl, inr}
 use mathlib.Core.List.{List, [], ◌∷◌, Memᴰ}
 use lib.Dec.{T}
-use lib.ListN.{length, take}
+use lib.ListN.{length}
 use borrow.Author.Tests.{le-ltb}
-use lib.Seq.{take-length}
+use Rattle.error.specs.declared.Refusal.{Refusal}
+use Rattle.std.specs.Prelude.{Result}
 use Rattle.error.specs.declared.Outcome.{Outcome}
 use Rattle.model.specs.Lists.{Bytes}
 use Rattle.model.specs.Stream.{End, fresh}
@@ -45,7 +45,7 @@ brings x y h v d b = go v.request b (ap (λ (a : Answer). a.outcome) (stands_ans
     go : (q : Request) → two_ends.Brings (call_of q) (seen_side x) (seen_side y) → v.step.outcome ≡ (answer (call_of q) (seen_of x.records)).outcome → Brings q v.step.outcome y
     go (to_write bytes) b e = tt
     go (to_deliver datagram clock) (inl m) e = inl m
-    go (to_deliver datagram clock) (inr t) e = inr (subst (λ (o : Outcome). T (is_refused o)) (sym e) t)
+    go (to_deliver datagram clock) (inr t) e = inr (subst (λ (o : Result Outcome Refusal). T (is_refused o)) (sym e) t)
     go (to_drive clock) b e = tt
     go (to_take buf) b e = tt
     go (to_read buf) b e = tt

@@ -11,6 +11,7 @@ use lib.Dec.{ltb}
 use lib.ListN.{length, take, drop}
 use lib.Seq.{take-append_seam}
 use borrow.Author.Tests.{leb-false}
+use Rattle.std.specs.Prelude.{Ok}
 use Rattle.error.specs.declared.Refusal.{Refusal}
 use Rattle.error.specs.declared.Outcome.TheVariants.{Ready, Nothing}
 use Rattle.model.specs.Lists.{Bytes}
@@ -149,7 +150,7 @@ stands_run (v ∷ vs) x e h r = stands_run vs (left v) (answer (call_of v.reques
 
 -- an open that was not refused
 
-ready_none : (why : Option Refusal) → opened_outcome why ≡ Ready → why ≡ none
+ready_none : (why : Option Refusal) → opened_outcome why ≡ Ok Ready → why ≡ none
 ready_none none e = refl
 ready_none (some why) e = let z : ◌≡◌ {A = ℕ} 0 1 = cc in absurd (omega arith)
 

@@ -9,6 +9,8 @@ use mathlib.Core.Option.{Option, none, some}
 use lib.Dec.{ltb}
 use lib.ListN.{length, take, drop, length-append}
 use lib.Seq.{take-append_seam, drop-append_seam}
+use Rattle.error.specs.declared.Refusal.{Refusal}
+use Rattle.std.specs.Prelude.{Result}
 use Rattle.error.specs.declared.Outcome.{Outcome}
 use Rattle.model.specs.Lists.{Bytes, joined, is_empty, on}
 use Rattle.model.specs.Slots.{get}
@@ -48,7 +50,7 @@ read_ack room e =
 -- one read on the records
 
 module _ (v : Event) (x : Side) (is : IsRead v) where
-  read_brings : (o : Outcome) (y : Side) → Brings v.request o y
+  read_brings : (o : Result Outcome Refusal) (y : Side) → Brings v.request o y
   read_brings o y = subst (λ (q : Request). Brings q o y) (sym is.1) tt
 
   read_noted : (happened v x).past.reads ≡ x.past.reads ++ take v.step.count v.buf

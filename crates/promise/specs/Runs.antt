@@ -1,9 +1,9 @@
 -- Demand 2 over any list of calls on the records: every answer, and the end seen after it, is the model's, and refusal 1 never occurs. The
 -- statement is `SameAsModel`, at the bottom; its terms come first. A call on the records is exactly what the contract of the exported
 -- function says (`Did`). Statements only: the proof is in proofs/Runs.antt.
-use Rattle.std.specs.Prelude.{ℕ, ◌≡◌, List, [], ◌∷◌, length, take}
+use Rattle.std.specs.Prelude.{ℕ, ◌≡◌, List, [], ◌∷◌, length, take, Ok, Err}
 use Rattle.error.specs.declared.Refusal.TheVariants.{BrokenRecords}
-use Rattle.error.specs.declared.Outcome.TheVariants.{Ready, Refused}
+use Rattle.error.specs.declared.Outcome.TheVariants.{Ready}
 use Rattle.model.specs.Lists.{Bytes}
 use Rattle.model.specs.Stream.{End, fresh}
 use Rattle.model.specs.Answers.{Answer}
@@ -113,7 +113,7 @@ calls_of (v ∷ vs) = call_of v.request ∷ calls_of vs
 -- an open that was not refused, over the caller's stores; open is not lent the words, which may hold anything
 pub record OpenedBy (local remote segments clock : ℕ) (l : Lent) (o : Opened) : Type 0 where
   pub opens : Opens local remote segments clock l.outgoing l.incoming l.headers o
-  pub ready : o.outcome ≡ Ready
+  pub ready : o.outcome ≡ Ok Ready
 
 abbrev pub handed_out : Opened → Lent → Records
 handed_out o l = record { stream = o.stream; totals = o.totals; lent = l }
@@ -125,7 +125,7 @@ pub record Same (x : Records) (e : End) : Type 0 where
   -- the next call, whichever it is, returns the model's outcome, count, bytes and segment size and leaves the model's end
   pub next : (v : Event) → Did x v → answer_of v ≡ answer (call_of v.request) e
   -- 01, refusal 1: "(never so after calls from a fresh stream)"
-  pub unbroken : (v : Event) → Did x v → v.step.outcome ≡ Refused BrokenRecords → ⊥
+  pub unbroken : (v : Event) → Did x v → v.step.outcome ≡ Err BrokenRecords → ⊥
   -- look shows what the model shows
   pub shown : shown_of x.stream x.totals x.lent ≡ model_out.look e
 

@@ -3,7 +3,8 @@
 -- its terms come first, in 01's words ('What the contracts say', 4). All that is known of a call is the contract of its exported function
 -- (`Did`, in Runs.antt); the histories are what the callers saw: bytes lent, counts, buffers and outcomes. Statements only: the proof is in
 -- proofs/TwoEndsOnRecords.antt.
-use Rattle.std.specs.Prelude.{ℕ, ◌+◌, ◌*◌, ◌%◌, ◌≤◌, ◌<◌, ◌≡◌, ◌⊎◌, cond, T, length, take, drop, get_or}
+use Rattle.error.specs.declared.Refusal.{Refusal}
+use Rattle.std.specs.Prelude.{ℕ, ◌+◌, ◌*◌, ◌%◌, ◌≤◌, ◌<◌, ◌≡◌, ◌⊎◌, cond, T, length, take, drop, get_or, Result}
 use mathlib.Core.List.{List, [], ◌∷◌, ◌++◌, Memᴰ}
 use Rattle.std.proofs.Math.Option.{some}
 use Rattle.error.specs.declared.Outcome.{Outcome}
@@ -78,7 +79,7 @@ last_of [] w = w
 last_of (c ∷ cs) w = last_of cs (turned c w)
 
 -- "each delivery a copy of such a datagram; only a refused delivery may bring other bytes"
-abbrev pub Brings : Request → Outcome → Side → Type 0
+abbrev pub Brings : Request → Result Outcome Refusal → Side → Type 0
 Brings (to_write bytes) o other = Unit {0}
 Brings (to_deliver datagram clock) o other = Memᴰ datagram other.past.taken ⊎ T (is_refused o)
 Brings (to_drive clock) o other = Unit {0}

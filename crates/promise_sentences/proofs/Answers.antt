@@ -6,7 +6,7 @@ use mathlib.Core.Option.{none}
 use mathlib.Core.Bool.{true}
 use lib.ListN.{length}
 use borrow.Author.Tests.{lt-ltb, le-ltb}
-use Rattle.error.specs.declared.Outcome.TheVariants.{Refused}
+use Rattle.std.specs.Prelude.{Err}
 use Rattle.model.specs.Lists.{Bytes}
 use Rattle.model.specs.Slots.{ceiling, get}
 use Rattle.model.specs.Stream.{End}
@@ -71,7 +71,7 @@ after_calls x e ok same =
       held = λ n. ap (λ (z : End). get z.receiver.incoming n) same.end;
       queued = ap (λ (z : End). z.queue.entries) same.end;
       next = answering e slots Event (Did x) (λ v. call_of v.request) answer_of same.next;
-      never_one = λ v d why o one. same.unbroken v d (o ∙ ap Refused (one_is why one));
+      never_one = λ v d why o one. same.unbroken v d (o ∙ ap Err (one_is why one));
       look = shows _ e ok same.shown;
     }
 
@@ -112,7 +112,7 @@ after_mixed x e ok same =
     record {
       records = after_calls x e ok same.records;
       next = answering e slots Mixed (MixedDid x) (λ v. call_of (as_event v).request) (λ v. answer_of (as_event v)) same.next;
-      never_one = λ v d why o one. same.unbroken v d (o ∙ ap Refused (one_is why one));
+      never_one = λ v d why o one. same.unbroken v d (o ∙ ap Err (one_is why one));
       look = λ n h p looks. shows_in_c n e p ok (same.shown n h p looks);
     }
 

@@ -18,16 +18,16 @@ use types.Logic.{Logic}
 use contract.Conj.{top}
 use contract.Monad.{Fun, fact_mono}
 use contract.Notation.{connectives}
+use Rattle.std.specs.Prelude as rust
+use Rattle.std.specs.Prelude.{Result, Ok, Err, None, Some, ⊤}
 use Rattle.error.specs.Answers.{error_or}
 use Rattle.error.specs.declared.UdxError.{UdxError}
 use Rattle.error.specs.declared.UdxError.TheVariants as error
 use Rattle.error.specs.declared.Refusal.{Refusal}
 use Rattle.error.specs.declared.Refusal.TheVariants.{BrokenRecords}
 use Rattle.error.specs.declared.Outcome.{Outcome}
-use Rattle.error.specs.declared.Outcome.TheVariants.{Ready, Waiting, Refused}
+use Rattle.error.specs.declared.Outcome.TheVariants.{Ready, Waiting}
 use Rattle.packet.specs.declared.header.Header.{Header}
-use Rattle.packet.specs.declared.header.Decoded.{Decoded}
-use Rattle.packet.specs.declared.header.Decoded.TheVariants.{Packet}
 use Rattle.packet.specs.Header.{header_bytes, fields, decoded, Encodes}
 use Rattle.packet.specs.Blocks.{Span}
 use Rattle.packet.proofs.HeaderLaws.{header_length, encoded_long, encoded_short}
@@ -106,34 +106,34 @@ module _ (call : End → Answer) (s : Stream) (t : Totals) (l : Lent) where
   unfolding on_records
   on_counts h = by-test (λ (a : Answer). a.count ≡ length a.bytes) (laid_out s l) (call (seen s t l)) (refused BrokenRecords (seen s t l)) (λ z. h (seen s t l)) (λ z. refl)
 
-  on_refused : (why : Refusal) → ((e : End) → (call e).outcome ≡ Refused why → (call e).bytes ≡ []) → (on_records call s t l).outcome ≡ Refused why
+  on_refused : (why : Refusal) → ((e : End) → (call e).outcome ≡ Err why → (call e).bytes ≡ []) → (on_records call s t l).outcome ≡ Err why
       → (on_records call s t l).bytes ≡ []
   unfolding on_records
-  on_refused why h = by-test (λ (a : Answer). a.outcome ≡ Refused why → a.bytes ≡ []) (laid_out s l) (call (seen s t l)) (refused BrokenRecords (seen s t l)) (λ z. h (seen s t l)) (λ z o. refl)
+  on_refused why h = by-test (λ (a : Answer). a.outcome ≡ Err why → a.bytes ≡ []) (laid_out s l) (call (seen s t l)) (refused BrokenRecords (seen s t l)) (λ z. h (seen s t l)) (λ z o. refl)
 
-take_refused : (room : ℕ) (why : Refusal) (e : End) → (model_out.take room e).outcome ≡ Refused why → (model_out.take room e).bytes ≡ []
+take_refused : (room : ℕ) (why : Refusal) (e : End) → (model_out.take room e).outcome ≡ Err why → (model_out.take room e).bytes ≡ []
 unfolding model_out.take
 take_refused room why e =
-    by_gate (λ a. a.outcome ≡ Refused why → a.bytes ≡ []) (model_out.take_refusal room e) e _ (λ w o. refl)
+    by_gate (λ a. a.outcome ≡ Err why → a.bytes ≡ []) (model_out.take_refusal room e) e _ (λ w o. refl)
     (λ clear.
-    by-test (λ (a : Answer). a.outcome ≡ Refused why → a.bytes ≡ []) (ltb 0 e.queue.left) _ _
+    by-test (λ (a : Answer). a.outcome ≡ Err why → a.bytes ≡ []) (ltb 0 e.queue.left) _ _
     (λ z o. let z : ◌≡◌ {A = ℕ} 0 1 = cc in absurd (omega arith)) (λ z o. refl))
 
 -- refusals 14 to 16 are not refusal 1
-error_not_one : (x : UdxError) → error_or x Waiting ≡ Refused BrokenRecords → ⊥
-error_not_one error.None o = let z : ◌≡◌ {A = ℕ} 0 1 = cc in omega arith
-error_not_one error.ConnectionReset o = let z : ◌≡◌ {A = ℕ} 0 1 = cc in omega arith
-error_not_one error.UnexpectedEof o = let z : ◌≡◌ {A = ℕ} 0 1 = cc in omega arith
-error_not_one error.TimedOut o = let z : ◌≡◌ {A = ℕ} 0 1 = cc in omega arith
+error_not_one : (x : rust.Option UdxError) → error_or x Waiting ≡ Err BrokenRecords → ⊥
+error_not_one None o = let z : ◌≡◌ {A = ℕ} 0 1 = cc in omega arith
+error_not_one (Some error.ConnectionReset) o = let z : ◌≡◌ {A = ℕ} 0 1 = cc in omega arith
+error_not_one (Some error.UnexpectedEof) o = let z : ◌≡◌ {A = ℕ} 0 1 = cc in omega arith
+error_not_one (Some error.TimedOut) o = let z : ◌≡◌ {A = ℕ} 0 1 = cc in omega arith
 
-read_not_one : (ready : Bool) (e : End) → model_in.read_outcome ready e ≡ Refused BrokenRecords → ⊥
+read_not_one : (ready : Bool) (e : End) → model_in.read_outcome ready e ≡ Err BrokenRecords → ⊥
 read_not_one true e o = let z : ◌≡◌ {A = ℕ} 0 1 = cc in omega arith
 read_not_one false e o = error_not_one e.ending.error o
 
-read_refused : (room : ℕ) (e : End) → (model_in.read room e).outcome ≡ Refused BrokenRecords → (model_in.read room e).bytes ≡ []
+read_refused : (room : ℕ) (e : End) → (model_in.read room e).outcome ≡ Err BrokenRecords → (model_in.read room e).bytes ≡ []
 unfolding model_in.read
 read_refused room e =
-    by_gate (λ a. a.outcome ≡ Refused BrokenRecords → a.bytes ≡ []) (model_in.read_refusal e) e _ (λ w o. refl) (λ clear o. absurd (read_not_one (model_in.read_next room e.receiver).ready e o))
+    by_gate (λ a. a.outcome ≡ Err BrokenRecords → a.bytes ≡ []) (model_in.read_refusal e) e _ (λ w o. refl) (λ clear o. absurd (read_not_one (model_in.read_next room e.receiver).ready e o))
 
 -- the calls on records
 
@@ -206,7 +206,7 @@ module _ (s : Stream) (t : Totals) (before : Lent) (r : Step) (after : Lent) whe
     take_puts d =
         put_puts r.count _ buf buf' (d.answers.agrees.count ∙ on_counts (model_out.take (length buf)) s t before (take_counts (length buf))) d.bytes
 
-    take_keeps : Hands s t before buf r after buf' → (why : Refusal) → r.outcome ≡ Refused why → buf' ≡ buf
+    take_keeps : Hands s t before buf r after buf' → (why : Refusal) → r.outcome ≡ Err why → buf' ≡ buf
     take_keeps d why o =
         put_none _ buf buf'
         (on_refused (model_out.take (length buf)) s t before why (take_refused (length buf) why) (sym d.answers.agrees.outcome ∙ o)) d.bytes
@@ -224,7 +224,7 @@ module _ (s : Stream) (t : Totals) (before : Lent) (r : Step) (after : Lent) whe
     read_puts : Gives s t before buf r after buf' → Puts r.count (on_records (model_in.read (length buf)) s t before).bytes buf buf'
     read_puts d = put_puts r.count _ buf buf' (d.agrees.count ∙ on_counts (model_in.read (length buf)) s t before (read_counts (length buf))) d.bytes
 
-    read_keeps : Gives s t before buf r after buf' → r.outcome ≡ Refused BrokenRecords → buf' ≡ buf
+    read_keeps : Gives s t before buf r after buf' → r.outcome ≡ Err BrokenRecords → buf' ≡ buf
     read_keeps d o =
         put_none _ buf buf'
         (on_refused (model_in.read (length buf)) s t before BrokenRecords (read_refused (length buf)) (sym d.agrees.outcome ∙ o)) d.bytes
@@ -233,7 +233,7 @@ module _ (s : Stream) (t : Totals) (before : Lent) (r : Step) (after : Lent) whe
         → Equations (model_in.read (length buf)) s t before r after
         × Puts r.count (on_records (model_in.read (length buf)) s t before).bytes buf buf'
         × WhereRefused r.outcome ((r.stream ≡ s) × (r.totals ≡ t))
-        × (r.outcome ≡ Refused BrokenRecords → (after.held ≡ before.held) × (buf' ≡ buf))
+        × (r.outcome ≡ Err BrokenRecords → (after.held ≡ before.held) × (buf' ≡ buf))
     read_says d = (
       d.agrees,
       read_puts d,
@@ -255,18 +255,18 @@ look_shows shown s t l is =
 -- open
 
 pub opens_fresh : (local remote segments clock : ℕ) (outgoing incoming headers : Bytes) (r : Opened) → Opens local remote segments clock outgoing incoming headers r
-    → r.outcome ≡ Ready
+    → r.outcome ≡ Ok Ready
     → numbers_on r.stream r.totals ≡ fresh_numbers local remote segments clock
 unfolding seen_queue seen fresh
 opens_fresh local remote segments clock outgoing incoming headers r does ready =
     let l = lent [] [] [] outgoing incoming headers in
     ap numbers_of (open_stands local remote segments clock l r (record { opens = does; ready = ready })).end
 
-refused-open : (why : Option Refusal) (not : Refusal) (s : Stream) → opened_outcome why ≡ Refused not → opened_stream why s ≡ fresh_stream 0 0 0 0
+refused-open : (why : Option Refusal) (not : Refusal) (s : Stream) → opened_outcome why ≡ Err not → opened_stream why s ≡ fresh_stream 0 0 0 0
 refused-open none not s o = let z : ◌≡◌ {A = ℕ} 0 1 = cc in absurd (omega arith)
 refused-open (some why) not s o = refl
 
-unless_refused : (why : Option Refusal) → refused_by (opened_outcome why) ≡ none → opened_outcome why ≡ Ready
+unless_refused : (why : Option Refusal) → refused_by (opened_outcome why) ≡ none → opened_outcome why ≡ Ok Ready
 unless_refused none h = refl
 unless_refused (some why) h = absurd (no_some h refl)
 
@@ -275,7 +275,7 @@ no_ceiling : rules (fresh 0 0 0 0) ≡ false
 unfolding rules fresh no_slots
 no_ceiling = refl
 
-broken_call : (c : Call) (e : End) → rules e ≡ false → (answer c e).outcome ≡ Refused BrokenRecords
+broken_call : (c : Call) (e : End) → rules e ≡ false → (answer c e).outcome ≡ Err BrokenRecords
 unfolding model.write model.write_refusal model_in.deliver model_in.deliver_refusal model_out.drive model_out.drive_refusal model_out.take model_out.take_refusal model_in.read model_in.read_refusal model.close model.close_refusal gate
 broken_call (write_call bytes) e h = rw h refl
 broken_call (deliver_call datagram clock) e h = rw h refl
@@ -295,7 +295,7 @@ pub open_says : (local remote segments clock : ℕ) (outgoing incoming headers :
 unfolding seen seen_queue fresh
 open_says local remote segments clock outgoing incoming headers r does =
     let why = open_why segments clock outgoing incoming headers in
-    let unused : (n : Refusal) → r.outcome ≡ Refused n → (l : Lent) → seen r.stream r.totals l ≡ fresh 0 0 0 0 =
+    let unused : (n : Refusal) → r.outcome ≡ Err n → (l : Lent) → seen r.stream r.totals l ≡ fresh 0 0 0 0 =
     λ n o l.
     ap₂ (λ (s : Stream) (t : Totals). seen s t l)
     (does.stream ∙ refused-open why n (fresh_stream local remote segments clock) (sym does.outcome ∙ o))
@@ -313,7 +313,7 @@ open_says local remote segments clock outgoing incoming headers r does =
 
 -- header coding and blocks
 
-pub encodes : (h : Header) (buf buf' : Bytes) (r : Outcome) → Encodes h buf buf' r
+pub encodes : (h : Header) (buf buf' : Bytes) (r : Result ⊤ Refusal) → Encodes h buf buf' r
     → (length buf < 20 → (refused_by r ≡ some 2) × (buf' ≡ buf)) × (20 ≤ length buf → (refused_by r ≡ none) × Puts 20 (header_bytes h) buf buf')
 encodes h buf buf' r d = (
   λ short. (refusals_in_order.encode_short h buf buf' r d short, d.buffer ∙ encoded_short h buf short),
@@ -327,14 +327,14 @@ encodes h buf buf' r d = (
       )),
 )
 
-header_decoded : (buf : Bytes) → 20 ≤ length buf → get_or buf 0 0 ≡ 255 → get_or buf 1 0 ≡ 1 → decoded buf ≡ Packet (fields buf)
+header_decoded : (buf : Bytes) → 20 ≤ length buf → get_or buf 0 0 ≡ 255 → get_or buf 1 0 ≡ 1 → decoded buf ≡ Ok (fields buf)
 unfolding decoded
 header_decoded buf long magic version = rw (le-leb 20 (length buf) long, eq-eqb (get_or buf 0 0) 255 magic, eq-eqb (get_or buf 1 0) 1 version) refl
 
-pub decodes : (buf : Bytes) (r : Decoded) → r ≡ decoded buf
+pub decodes : (buf : Bytes) (r : Result Header Refusal) → r ≡ decoded buf
     → (length buf < 20 → undecoded_by r ≡ some 7)
     × ((get_or buf 0 0 ≡ 255 → get_or buf 1 0 ≡ 1 → ⊥) → undecoded_by r ≡ some 7)
-    × (20 ≤ length buf → get_or buf 0 0 ≡ 255 → get_or buf 1 0 ≡ 1 → r ≡ Packet (fields buf))
+    × (20 ≤ length buf → get_or buf 0 0 ≡ 255 → get_or buf 1 0 ≡ 1 → r ≡ Ok (fields buf))
 decodes buf r is = (
   λ short. ap undecoded_by is ∙ refusals_in_order.decode_short buf short,
   λ other. ap undecoded_by is ∙ refusals_in_order.decode_other buf other,

@@ -14,12 +14,12 @@ use prog.Memory.{Memory}
 use prog.Routine.{Routine}
 use types.Logic.{Logic}
 use contract.Monad.{Fun}
+use Rattle.std.specs.Prelude.{Result, Ok, Err}
 use Rattle.error.specs.declared.Refusal.{Refusal}
 use Rattle.error.specs.declared.Refusal.TheVariants.{BrokenRecords}
 use Rattle.error.specs.declared.Outcome.{Outcome}
 use Rattle.error.specs.declared.Outcome.TheVariants as outcome
-use Rattle.packet.specs.declared.header.Decoded.{Decoded}
-use Rattle.packet.specs.declared.header.Decoded.TheVariants as header
+use Rattle.packet.specs.declared.header.Header.{Header}
 use Rattle.packet.specs.Header.{header_bytes, fields, decoded}
 use Rattle.model.specs.Lists.{Bytes}
 use Rattle.model.specs.Stream.{End}
@@ -55,7 +55,7 @@ use Rattle.udx_c.proofs.ShownLaws.{looks_shown}
 use Rattle.udx_c_part.specs.Place.{looked_part}
 use Rattle.promise_ways.proofs.Contracts.{contracts_of_c}
 use Rattle.promise_ways.specs.Calls.{outcome_of, opened_of}
-use Rattle.promise_ways.proofs.FromC.{opened_back, step_known, opened_known, broken_is}
+use Rattle.promise_ways.proofs.FromC.{size_back, opened_back, step_known, opened_known, broken_is}
 use Rattle.promise_sentences.specs.Answers.{numbers_in_c}
 use Rattle.promise_sentences.specs.Calls.{Puts, fresh_numbers, OpenSays, LookShows}
 use Rattle.promise_sentences.specs.CallsFromC.{AnswerInNumbers, EquationsInC, RefusedInC, bad_header, DemandOneFromC}
@@ -103,37 +103,31 @@ same_numbers a q r after g is =
       outcome = rw is (ap outcome_byte g.outcome);
       refusal = rw is (ap refusal_byte g.outcome);
       count = rw is g.count;
-      segment = rw is g.segment;
+      segment = rw (is, size_back q.segment g.not_zero) g.segment;
       end = rw (is, comes_back.stream q.stream, comes_back.totals q.totals) g.end;
       known = rw is (step_known q);
     }
 
 -- outcome 4 is a refusal
-refused_as : (o : Outcome) → outcome_byte o ≡ 4 → (why : Refusal) × (o ≡ outcome.Refused why)
-refused_as outcome.Ready e = absurd (omega arith)
-refused_as outcome.Waiting e = absurd (omega arith)
-refused_as outcome.Done e = absurd (omega arith)
-refused_as outcome.Nothing e = absurd (omega arith)
-refused_as (outcome.Refused why) e = (why, refl)
+refused_as : (o : Result Outcome Refusal) → outcome_byte o ≡ 4 → (why : Refusal) × (o ≡ Err why)
+refused_as (Ok outcome.Ready) e = absurd (omega arith)
+refused_as (Ok outcome.Waiting) e = absurd (omega arith)
+refused_as (Ok outcome.Done) e = absurd (omega arith)
+refused_as (Ok outcome.Nothing) e = absurd (omega arith)
+refused_as (Err why) e = (why, refl)
 
 -- refusals by number
-byte_some : (o : Outcome) (n : ℕ) → refused_by o ≡ some n → refusal_byte o ≡ n
-byte_some outcome.Ready n e = absurd (no_some refl e)
-byte_some outcome.Waiting n e = absurd (no_some refl e)
-byte_some outcome.Done n e = absurd (no_some refl e)
-byte_some outcome.Nothing n e = absurd (no_some refl e)
-byte_some (outcome.Refused why) n e = some_inj refl e
+byte_some : {A : Type 0} (o : Result A Refusal) (n : ℕ) → refused_by o ≡ some n → refusal_byte o ≡ n
+byte_some (Ok x) n e = absurd (no_some refl e)
+byte_some (Err why) n e = some_inj refl e
 
-byte_none : (o : Outcome) → refused_by o ≡ none → refusal_byte o ≡ 0
-byte_none outcome.Ready e = refl
-byte_none outcome.Waiting e = refl
-byte_none outcome.Done e = refl
-byte_none outcome.Nothing e = refl
-byte_none (outcome.Refused why) e = absurd (no_some e refl)
+byte_none : {A : Type 0} (o : Result A Refusal) → refused_by o ≡ none → refusal_byte o ≡ 0
+byte_none (Ok x) e = refl
+byte_none (Err why) e = absurd (no_some e refl)
 
-bad-header : (d : Decoded) → undecoded_by d ≡ some 7 → flat_decoded d ≡ bad_header
-bad-header (header.Packet h) e = absurd (no_some refl e)
-bad-header (header.Refused why) e =
+bad-header : (d : Result Header Refusal) → undecoded_by d ≡ some 7 → flat_decoded d ≡ bad_header
+bad-header (Ok h) e = absurd (no_some refl e)
+bad-header (Err why) e =
     ap (λ (n : ℕ). record { header = bad_header.header; outcome = 4; refusal = n }) (some_inj refl e)
 
 -- a call from C
@@ -169,7 +163,7 @@ module _ (call : Stream → Totals → Lent → Step → Lent → Type 0) (s : F
       (λ k. rw (c.strange k).lent (record { outgoing = λ i l. refl; incoming = λ i l. refl }))
 
   -- what a refused call leaves unchanged on the records is unchanged here
-  numbers-in-c : ((q : Step) → call (stream_of s) (totals_of t) before q after → (why : Refusal) → q.outcome ≡ outcome.Refused why → (q.stream ≡ stream_of s) × (q.totals ≡ totals_of t))
+  numbers-in-c : ((q : Step) → call (stream_of s) (totals_of t) before q after → (why : Refusal) → q.outcome ≡ Err why → (q.stream ≡ stream_of s) × (q.totals ≡ totals_of t))
       → r.outcome ≡ 4 → (r.stream ≡ s) × (r.totals ≡ t)
   unfolding broken_step flat_step
   numbers-in-c same four =
@@ -183,7 +177,7 @@ module _ (call : Stream → Totals → Lent → Step → Lent → Type 0) (s : F
       )))
       (λ k. (ap (λ (z : FlatStep). z.stream) (c.strange k).answer, ap (λ (z : FlatStep). z.totals) (c.strange k).answer))
 
-  where_refused : (P : Type 0) → ((q : Step) → call (stream_of s) (totals_of t) before q after → (why : Refusal) → q.outcome ≡ outcome.Refused why → P)
+  where_refused : (P : Type 0) → ((q : Step) → call (stream_of s) (totals_of t) before q after → (why : Refusal) → q.outcome ≡ Err why → P)
       → (is_strange s.ending ≡ true → after ≡ before → P) → r.outcome ≡ 4 → P
   unfolding flat_step
   where_refused P known strange four =
@@ -194,7 +188,7 @@ module _ (call : Stream → Totals → Lent → Step → Lent → Type 0) (s : F
       known d.step d.does why o))
       (λ k. strange k (c.strange k).lent)
 
-  where_one : (P : Type 0) → ((q : Step) → call (stream_of s) (totals_of t) before q after → q.outcome ≡ outcome.Refused BrokenRecords → P)
+  where_one : (P : Type 0) → ((q : Step) → call (stream_of s) (totals_of t) before q after → q.outcome ≡ Err BrokenRecords → P)
       → (is_strange s.ending ≡ true → after ≡ before → P) → r.refusal ≡ 1 → P
   unfolding flat_step
   where_one P known strange one =
@@ -384,7 +378,7 @@ decode_in_c buf r is =
       λ l. is ∙ bad-header (decoded buf) (short l),
       λ o. is ∙ bad-header (decoded buf) (other o),
       λ long magic version.
-          (let whole : r ≡ flat_decoded (header.Packet (fields buf)) = is ∙ ap flat_decoded (packet long magic version) in
+          (let whole : r ≡ flat_decoded (Ok (fields buf)) = is ∙ ap flat_decoded (packet long magic version) in
           (ap (λ (z : FlatDecoded). z.outcome) whole, ap (λ (z : FlatDecoded). z.refusal) whole, ap (λ (z : FlatDecoded). z.header) whole)),
     )
 

@@ -1,5 +1,5 @@
 -- What demand 3 is about: what a history counts holds by computation, and a call that 01 allows on the line is one that the theorems allow.
-use Prim.Native.Nat.{ℕ, suc}
+use Prim.Native.Nat.{ℕ}
 use native.Mathlib.Omega.{arith}
 use mathlib.Core.Path.{◌≡◌, refl, ap}
 use mathlib.Core.List.{List, [], ◌++◌, append-nil}
@@ -7,10 +7,9 @@ use mathlib.Core.Logic.{inl, inr}
 use mathlib.Core.Option.{Option, none, some}
 use mathlib.Core.Bool.{Bool, true, false, cond}
 use lib.Dec.{T}
-use borrow.Author.Tests.{ne_eqb}
+use Rattle.std.specs.Prelude.{Result, Err}
 use Rattle.error.specs.declared.Refusal.{Refusal}
 use Rattle.error.specs.declared.Outcome.{Outcome}
-use Rattle.error.specs.declared.Outcome.TheVariants.{Refused}
 use Rattle.model.specs.Driving.{datagrams_of}
 use Rattle.model.specs.Calls.{Call, write_call, deliver_call, drive_call, take_call, read_call, close_call, answer}
 use Rattle.model_ends.specs.TwoEnds as model
@@ -45,7 +44,7 @@ history_counts =
       refused_delivery = λ datagram clock r buf h why e. rw e (nothing_more h);
       data_delivery = λ datagram clock r buf h e d. rw (e, d) refl;
       other_delivery = λ datagram clock r buf h d. rw (d, either_none (is_refused r.outcome)) (nothing_more h);
-      takes_pieces = λ buf buf' r h size e. rw (e, ne_eqb (suc size) 0 (λ z. omega arith)) refl;
+      takes_pieces = λ buf buf' r h size e. rw e refl;
       takes_all = λ buf buf' r h b bytes e f. rw (e, f) refl;
       takes_none = λ buf buf' r h e. rw (e, no_bytes (segment_of r.segment)) (append-nil h.taken);
     }
@@ -92,10 +91,10 @@ goes_on =
 
 -- lines
 
-is-refused : (o : Outcome) (why : Refusal) → o ≡ Refused why → T (is_refused o)
+is-refused : (o : Result Outcome Refusal) (why : Refusal) → o ≡ Err why → T (is_refused o)
 is-refused o why e = rw e tt
 
-brings : (q : Request) (o : Outcome) (other : Side) → Allowed other.past.taken o q → Brings q o other
+brings : (q : Request) (o : Result Outcome Refusal) (other : Side) → Allowed other.past.taken o q → Brings q o other
 brings (to_write bytes) o other h = tt
 brings (to_deliver datagram clock) o other (no_delivery h) = absurd (h datagram clock refl)
 brings (to_deliver datagram clock) o other (copy m) = inl m

@@ -10,6 +10,8 @@ use mathlib.Core.Bool.{Bool, true, false, cond, ◌||◌, true≢false}
 use lib.Dec.{ltb}
 use lib.ListN.{length, drop, get_or}
 use borrow.Author.Tests.{ltb-true, ltb-false}
+use Rattle.std.specs.Prelude as rust
+use Rattle.std.specs.Prelude.{Result, Ok, None, Some, ⊤}
 use Rattle.error.specs.Answers.{number_of, error_or}
 use Rattle.error.specs.declared.UdxError.{UdxError}
 use Rattle.error.specs.declared.UdxError.TheVariants as error
@@ -90,8 +92,8 @@ module _ (ts : List Test) (numbers : List ℕ) (is : map number ts ≡ numbers) 
 acts : (t : Bool) (x y : Answer) → refused_by x.outcome ≡ none → refused_by y.outcome ≡ none → refused_by (cond t x y).outcome ≡ none
 acts t x y p q = by-test (λ (a : Answer). refused_by a.outcome ≡ none) t x y (λ z. p) (λ z. q)
 
-writes : (bytes : Bytes) (count : ℕ) → refused_by (write_outcome bytes count) ≡ none
-writes bytes count = by-test (λ (o : Outcome). refused_by o ≡ none) (is_empty bytes || ltb 0 count) Ready Waiting (λ z. refl) (λ z. refl)
+writes : (bytes : Bytes) (count : ℕ) → refused_by {A = Outcome} (Ok (write_outcome bytes count)) ≡ none
+writes bytes count = refl
 
 -- open
 
@@ -103,7 +105,7 @@ module _ (segments clock : ℕ) (outgoing incoming headers : Bytes) where
   abbrev tests : List Test
   tests = open_tests_on (stores_test outgoing incoming headers) segments clock
 
-  pub open_order : (o : Outcome) → o ≡ opened_outcome (open_why segments clock outgoing incoming headers) → InOrder tests (1 ∷ 3 ∷ 4 ∷ []) o
+  pub open_order : (o : Result Outcome Refusal) → o ≡ opened_outcome (open_why segments clock outgoing incoming headers) → InOrder tests (1 ∷ 3 ∷ 4 ∷ []) o
   open_order o e =
       let numbers = open_refusals.numbers segments clock outgoing incoming headers in
       let is : o ≡ opened_outcome (first tests) = e ∙ ap opened_outcome (open_refusals.first_of segments clock outgoing incoming headers) in (
@@ -120,11 +122,11 @@ module _ (segments clock : ℕ) (outgoing incoming headers : Bytes) where
 
 -- read
 
-error_among : (x : UdxError) (n : ℕ) → refused_by (error_or x Waiting) ≡ some n → Memᴰ n (1 ∷ 14 ∷ 15 ∷ 16 ∷ [])
-error_among error.None n h = absurd (no_some refl h)
-error_among error.ConnectionReset n h = Memᴰ.tail (Memᴰ.head (some_inj h refl))
-error_among error.UnexpectedEof n h = Memᴰ.tail (Memᴰ.tail (Memᴰ.head (some_inj h refl)))
-error_among error.TimedOut n h = Memᴰ.tail (Memᴰ.tail (Memᴰ.tail (Memᴰ.head (some_inj h refl))))
+error_among : (x : rust.Option UdxError) (n : ℕ) → refused_by (error_or x Waiting) ≡ some n → Memᴰ n (1 ∷ 14 ∷ 15 ∷ 16 ∷ [])
+error_among None n h = absurd (no_some refl h)
+error_among (Some error.ConnectionReset) n h = Memᴰ.tail (Memᴰ.head (some_inj h refl))
+error_among (Some error.UnexpectedEof) n h = Memᴰ.tail (Memᴰ.tail (Memᴰ.head (some_inj h refl)))
+error_among (Some error.TimedOut) n h = Memᴰ.tail (Memᴰ.tail (Memᴰ.tail (Memᴰ.head (some_inj h refl))))
 
 outcome_among : (ready : Bool) (e : End) (n : ℕ) → refused_by (read_outcome ready e) ≡ some n → Memᴰ n (1 ∷ 14 ∷ 15 ∷ 16 ∷ [])
 outcome_among true e n h = absurd (no_some refl h)
@@ -143,16 +145,16 @@ read_no_other room e n h = go (first (read_tests e)) refl h
     go none f h = outcome_among (read_next room e.receiver).ready e n h
     go (some why) f h = one_among n (among (read_tests e) (1 ∷ []) (refusals_in_order.reads e) why f n h)
 
-read_clear : (ready : Bool) (e : End) → e.ending.error ≡ error.None → refused_by (read_outcome ready e) ≡ none
+read_clear : (ready : Bool) (e : End) → e.ending.error ≡ None → refused_by (read_outcome ready e) ≡ none
 read_clear true e is = refl
-read_clear false e is = ap (λ (x : UdxError). refused_by (error_or x Waiting)) is
+read_clear false e is = ap (λ (x : rust.Option UdxError). refused_by (error_or x Waiting)) is
 
-meets : (room : ℕ) (e : End) → rules e ≡ true → (read_next room e.receiver).ready ≡ false → (x : UdxError) → e.ending.error ≡ x → (n : ℕ)
+meets : (room : ℕ) (e : End) → rules e ≡ true → (read_next room e.receiver).ready ≡ false → (x : rust.Option UdxError) → e.ending.error ≡ x → (n : ℕ)
     → error_number x ≡ some n → refused_by (read room e).outcome ≡ some n
-meets room e ok part error.None is n h = absurd (no_some refl h)
-meets room e ok part error.ConnectionReset is n h = refusals_in_order.read_reset room e ok part is ∙ h
-meets room e ok part error.UnexpectedEof is n h = refusals_in_order.read_eof room e ok part is ∙ h
-meets room e ok part error.TimedOut is n h = refusals_in_order.read_timed_out room e ok part is ∙ h
+meets room e ok part None is n h = absurd (no_some refl h)
+meets room e ok part (Some error.ConnectionReset) is n h = refusals_in_order.read_reset room e ok part is ∙ h
+meets room e ok part (Some error.UnexpectedEof) is n h = refusals_in_order.read_eof room e ok part is ∙ h
+meets room e ok part (Some error.TimedOut) is n h = refusals_in_order.read_timed_out room e ok part is ∙ h
 
 finishes : (room : ℕ) (e : End) → rules e ≡ true → (read_next room e.receiver).ready ≡ true → refused_by (read room e).outcome ≡ none
 unfolding read read_refusal gate
@@ -160,7 +162,7 @@ finishes room e ok ready = rw (ok, ready) refl
 
 -- header coding
 
-encode_number : (h : Header) (before after : Bytes) (r : Outcome) → Encodes h before after r → (refused_by r ≡ some 2) ↔ (length before < 20)
+encode_number : (h : Header) (before after : Bytes) (r : Result ⊤ Refusal) → Encodes h before after r → (refused_by r ≡ some 2) ↔ (length before < 20)
 encode_number h before after r does = (λ two. go two (ltb (length before) 20) refl, refusals_in_order.encode_short h before after r does)
   where
     go : refused_by r ≡ some 2 → (b : Bool) → ltb (length before) 20 ≡ b → length before < 20

@@ -10,6 +10,7 @@ use prog.Routine.{Routine}
 use types.Logic.{Logic}
 use contract.Monad.{Fun}
 use contract.Notation.{connectives}
+use Rattle.std.specs.Prelude.{Ok}
 use Rattle.error.specs.declared.Outcome.TheVariants.{Ready}
 use Rattle.model.specs.Lists.{Bytes}
 use Rattle.records.specs.declared.«open».Opened.{Opened}
@@ -21,7 +22,7 @@ use Rattle.promise_sentences.proofs.Calls.{promises_by, promises, opens_fresh}
 
 -- an open at clock 0 with ceiling 10 can be refused only for its stores
 ends_ready : (local remote : ℕ) (outgoing incoming headers : Bytes) (o : Opened) → Opens local remote 10 0 outgoing incoming headers o
-    → stores_test outgoing incoming headers ≡ false → o.outcome ≡ Ready
+    → stores_test outgoing incoming headers ≡ false → o.outcome ≡ Ok Ready
 unfolding open_why
 ends_ready local remote outgoing incoming headers o does sized = does.outcome ∙ rw sized refl
 

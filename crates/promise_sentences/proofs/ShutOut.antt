@@ -8,6 +8,8 @@ use mathlib.Core.List.{[], ◌++◌}
 use lib.Dec.{ltb, leb, eqb}
 use lib.ListN.{length, drop, length-take}
 use borrow.Author.Tests.{ltb-true, ltb-false, leb-true, leb-false, eqb-true, not-false}
+use Rattle.std.specs.Prelude as rust
+use Rattle.std.specs.Prelude.{None, Some}
 use Rattle.error.specs.declared.UdxError.{UdxError}
 use Rattle.error.specs.declared.UdxError.TheVariants as error
 use Rattle.packet.specs.Header.{fields, has_header}
@@ -31,11 +33,11 @@ none_left n h = let l = ltb-false 0 n h in omega arith
 clock_good : (clock last : ℕ) → (leb (2 ^ 60) clock || ltb clock last) ≡ false → (clock < 2 ^ 60) × (last ≤ clock)
 clock_good clock last h = let (fits, next) = or_false (leb (2 ^ 60) clock) _ h in (leb-false (2 ^ 60) clock fits, ltb-false clock last next)
 
-no_error : (x : UdxError) → is_reset x ≡ false → is_eof x ≡ false → is_timed_out x ≡ false → x ≡ error.None
-no_error error.None a b c = refl
-no_error error.ConnectionReset a b c = absurd (true≢false a)
-no_error error.UnexpectedEof a b c = absurd (true≢false b)
-no_error error.TimedOut a b c = absurd (true≢false c)
+no_error : (x : rust.Option UdxError) → is_reset x ≡ false → is_eof x ≡ false → is_timed_out x ≡ false → x ≡ None
+no_error None a b c = refl
+no_error (Some error.ConnectionReset) a b c = absurd (true≢false a)
+no_error (Some error.UnexpectedEof) a b c = absurd (true≢false b)
+no_error (Some error.TimedOut) a b c = absurd (true≢false c)
 
 deliverable : (datagram : Bytes) (clock : ℕ) (e : End) → deliver_refusal datagram clock e ≡ none → Deliverable datagram clock e
 unfolding deliver_refusal

@@ -2,13 +2,13 @@
 -- open the numbers are the model's (`StreamNumbers`), the next call answers as the model's does (`Answering`), refusal 1 does not occur,
 -- and look shows the next datagram (`Shows`); on the records, from C, and with the ways mixed. Each sentence follows from the field of the
 -- promise that renders it. Statements only: the proofs are in proofs/Answers.antt.
-use Rattle.std.specs.Prelude.{ℕ, ◌+◌, ◌≤◌, ◌<◌, ◌≡◌, List, [], Bool, eqb, length}
+use Rattle.std.specs.Prelude as rust
+use Rattle.std.specs.Prelude.{ℕ, ◌+◌, ◌≤◌, ◌<◌, ◌≡◌, List, [], Bool, eqb, length, Result, Err}
 use Rattle.std.proofs.Math.Option.{Option}
 use Rattle.error.specs.Answers.{number_of}
 use Rattle.error.specs.declared.UdxError.{UdxError}
 use Rattle.error.specs.declared.Refusal.{Refusal}
 use Rattle.error.specs.declared.Outcome.{Outcome}
-use Rattle.error.specs.declared.Outcome.TheVariants.{Refused}
 use Rattle.model.specs.Lists.{Bytes}
 use Rattle.model.specs.Slots.{get}
 use Rattle.model.specs.Stream.{CloseState, End, fresh}
@@ -27,7 +27,7 @@ use Rattle.udx_c_numbers.specs.declared.structs.FlatStep.{FlatStep}
 use Rattle.udx_c_numbers.specs.Bytes.{error_of, state_of}
 use Rattle.udx_c.specs.declared.look.FlatPart.{FlatPart}
 use Rattle.udx_c.specs.Shown.{store_of, bytes_of, Looks}
-use Rattle.promise_ways.specs.Calls.{Plain, PlainEvent, PlainDid, PlainRun, plain_left, plain_last, plain_opened, outcome_of, records_of, events_of, OpenedInC}
+use Rattle.promise_ways.specs.Calls.{Plain, PlainEvent, PlainDid, PlainRun, plain_left, plain_last, plain_opened, outcome_of, size_of, records_of, events_of, OpenedInC}
 use Rattle.promise_ways.specs.Mixed.{StandsFor, Mixed, as_event, as_events, MixedDid, OpenedEither, MixedRun}
 use Rattle.promise_sentences.specs.ShutOut.{LiveAnswer}
 
@@ -52,7 +52,7 @@ pub record StreamNumbers : Type 0 where
   pub rto : ℕ
   pub deadline : ℕ
   pub left : ℕ
-  pub error : UdxError
+  pub error : rust.Option UdxError
   pub state : CloseState
   pub ended : Bool
   pub last_clock : ℕ
@@ -160,7 +160,7 @@ numbers_in_c s t =
 -- the next call, whichever it is
 
 -- `Next` are the possible next calls, `Known` is what is known of each; `e` is the model's end before the call
-pub record Answering (e : End) (Next : Type 0) (Known : Next → Type 0) (call : Next → Call) (outcome : Next → Outcome) (count : Next → ℕ) (bytes : Next → Bytes)
+pub record Answering (e : End) (Next : Type 0) (Known : Next → Type 0) (call : Next → Call) (outcome : Next → Result Outcome Refusal) (count : Next → ℕ) (bytes : Next → Bytes)
     (segment : Next → Option ℕ) (end : Next → End) : Type 0 where
   -- "Every exported function's result, stream, totals and store bytes are equations in the call's inputs, for refused calls too"
   pub outcomes : (v : Next) → Known v → outcome v ≡ (answer (call v) e).outcome
@@ -191,7 +191,7 @@ pub record AfterCalls (x : Records) (e : End) : Type 0 where
       (λ v. segment_of v.step.segment)
       (λ v. seen_of (left v))
   -- 01, refusal 1: "(never so after calls from a fresh stream)"
-  pub never_one : (v : Event) → Did x v → (why : Refusal) → v.step.outcome ≡ Refused why → number_of why ≡ 1 → ⊥
+  pub never_one : (v : Event) → Did x v → (why : Refusal) → v.step.outcome ≡ Err why → number_of why ≡ 1 → ⊥
   pub look : Shows (shown_of x.stream x.totals x.lent) e
 
 abbrev pub DemandTwoOnRecords : Type 0
@@ -202,7 +202,7 @@ DemandTwoOnRecords =
     → Run events (handed_out o l)
     → AfterCalls (last_of events (handed_out o l)) (after (calls_of events) (fresh local remote segments clock))
 
--- from C: the numbers of outcome and refusal are read as one outcome (`outcome_of`)
+-- from C: the numbers of outcome and refusal are read as one outcome (`outcome_of`), and a segment size of 0 as none (`size_of`)
 
 -- the part that `udx_look` returns has exactly these bytes and is within its store: the header store if `header` is 1, the outgoing store
 -- if it is 0
@@ -218,7 +218,7 @@ pub record AfterCallsInC (x : Plain) (e : End) : Type 0 where
   pub records : AfterCalls (records_of x) e
   pub next : Answering e PlainEvent (PlainDid x) (λ v. call_of v.request) (λ v. outcome_of v.step.outcome v.step.refusal) (λ v. v.step.count)
       (λ v. put_by v.request v.step.count v.buf)
-      (λ v. segment_of v.step.segment)
+      (λ v. segment_of (size_of v.step.segment))
       (λ v. seen_of (records_of (plain_left v)))
   pub never_one : (v : PlainEvent) → PlainDid x v → v.step.refusal ≡ 1 → ⊥
   pub look : (p : FlatPart) → Looks x.stream x.totals x.lent p → ShowsInC x e p
@@ -239,7 +239,7 @@ pub record AfterMixedCalls (x : Records) (e : End) : Type 0 where
       (λ v. put_by (as_event v).request (as_event v).step.count (as_event v).buf)
       (λ v. segment_of (as_event v).step.segment)
       (λ v. seen_of (left (as_event v)))
-  pub never_one : (v : Mixed) → MixedDid x v → (why : Refusal) → (as_event v).step.outcome ≡ Refused why → number_of why ≡ 1 → ⊥
+  pub never_one : (v : Mixed) → MixedDid x v → (why : Refusal) → (as_event v).step.outcome ≡ Err why → number_of why ≡ 1 → ⊥
   -- from C, on any numbers that stand for the records
   pub look : (n : Plain) → StandsFor n x → (p : FlatPart) → Looks n.stream n.totals n.lent p → ShowsInC n e p
 

@@ -2,7 +2,7 @@
 -- (`Promises`). Each follows from the call's field of `Contracts` (promise/specs/Contracts.antt), so if a contract said less, or a field
 -- were missing, the proof would fail. `x` are the parameters, `y` their values at the end, `r` is the result. Statements only: the proofs
 -- are in proofs/Calls.antt.
-use Rattle.std.specs.Prelude.{ℕ, ◌+◌, ◌≤◌, ◌<◌, ◌≡◌, List, [], ◌∷◌, true, false, length, take, drop, get_or}
+use Rattle.std.specs.Prelude.{ℕ, ◌+◌, ◌≤◌, ◌<◌, ◌≡◌, List, [], ◌∷◌, true, false, length, take, drop, get_or, Result, Ok, Err, None, Some}
 use Rattle.std.proofs.Math.Option.{none, some}
 use seplogic.Ra.Ura.{Ura}
 use base.Logic.{SProp, ent}
@@ -14,13 +14,10 @@ use contract.Monad.{Fun}
 use contract.Notation.{connectives}
 use denote.Triple.Entry.{Args, Res}
 use denote.Triple.Clauses.{AtExit}
-use Rattle.error.specs.declared.UdxError.TheVariants as error
 use Rattle.error.specs.declared.Refusal.{Refusal}
 use Rattle.error.specs.declared.Refusal.TheVariants.{BrokenRecords}
 use Rattle.error.specs.declared.Outcome.{Outcome}
-use Rattle.error.specs.declared.Outcome.TheVariants.{Ready, Refused}
-use Rattle.packet.specs.declared.header.Decoded.TheVariants.{Packet}
-use Rattle.packet.specs.declared.sack.Block.TheVariants.{Range, NoMore}
+use Rattle.error.specs.declared.Outcome.TheVariants.{Ready}
 use Rattle.packet.specs.Header.{header_bytes, fields}
 use Rattle.packet.specs.LittleEndian.{word}
 use Rattle.packet.specs.contracts.header.Header.encode as encode
@@ -68,8 +65,8 @@ abbrev pub Equations : (model-stream.End → Answer) → Stream → Totals → L
 Equations call s t before r after = Agrees (on_records call s t before) r after
 
 -- "Each returns its number and changes nothing"
-abbrev pub WhereRefused : Outcome → Type 0 → Type 0
-WhereRefused o unchanged = (why : Refusal) → o ≡ Refused why → unchanged
+abbrev pub WhereRefused : Result Outcome Refusal → Type 0 → Type 0
+WhereRefused o unchanged = (why : Refusal) → o ≡ Err why → unchanged
 
 -- bytes that a call put into a buffer: they are at its front, and "An output buffer's bytes past the count stay."
 pub record Puts (count : ℕ) (bytes before after : Bytes) : Type 0 where
@@ -95,7 +92,7 @@ fresh_numbers local remote segments clock =
       rto = 1_000_000_000;
       deadline = clock + 1_000_000_000;
       left = 0;
-      error = error.None;
+      error = None;
       state = model-stream.both_open;
       ended = false;
       last_clock = clock;
@@ -111,14 +108,14 @@ fresh_numbers local remote segments clock =
 -- what an open returns
 pub record OpenSays (local remote segments clock : ℕ) (outgoing incoming headers : Bytes) (r : Opened) : Type 0 where
   pub in_order : InOrder (open_tests_on (stores_test outgoing incoming headers) segments clock) (1 ∷ 3 ∷ 4 ∷ []) r.outcome
-  pub ready : refused_by r.outcome ≡ none → r.outcome ≡ Ready
-  pub numbers : r.outcome ≡ Ready → numbers_on r.stream r.totals ≡ fresh_numbers local remote segments clock
+  pub ready : refused_by r.outcome ≡ none → r.outcome ≡ Ok Ready
+  pub numbers : r.outcome ≡ Ok Ready → numbers_on r.stream r.totals ≡ fresh_numbers local remote segments clock
   -- 'Fresh': "stores empty", "queue empty", whatever the words hold: open is not lent them
-  pub empty : r.outcome ≡ Ready → (sent held queue : List ℕ)
+  pub empty : r.outcome ≡ Ok Ready → (sent held queue : List ℕ)
       → seen r.stream r.totals (lent sent held queue outgoing incoming headers) ≡ model-stream.fresh local remote segments clock
   -- a refused open hands out a stream with ids, clock and segment ceiling 0, which every call refuses with 1, whatever it is lent
-  pub refused : (why : Refusal) → r.outcome ≡ Refused why → numbers_on r.stream r.totals ≡ fresh_numbers 0 0 0 0
-  pub unusable : (why : Refusal) → r.outcome ≡ Refused why → (c : Call) (l : Lent) → refused_by (on_records (answer c) r.stream r.totals l).outcome ≡ some 1
+  pub refused : (why : Refusal) → r.outcome ≡ Err why → numbers_on r.stream r.totals ≡ fresh_numbers 0 0 0 0
+  pub unusable : (why : Refusal) → r.outcome ≡ Err why → (c : Call) (l : Lent) → refused_by (on_records (answer c) r.stream r.totals l).outcome ≡ some 1
 
 -- look: "the next datagram (first entry left to take whose packet is there) is shown .., an empty part when nothing is left to take and
 -- also in place of refusal 1"
@@ -129,8 +126,8 @@ pub record LookShows (shown : Bytes) (s : Stream) (t : Totals) (l : Lent) : Type
 
 -- "Blocks are start (4) and end (4), end excluded, read while place + 8 is below the payload length."
 pub record ReadsBlock (payload : Bytes) (at : ℕ) (r : Next) : Type 0 where
-  pub block : at + 8 < length payload → (r.block ≡ Range (word payload at) (word payload (at + 4))) × (r.at ≡ at + 8)
-  pub none_left : length payload ≤ at + 8 → (r.block ≡ NoMore) × (r.at ≡ at)
+  pub block : at + 8 < length payload → (r.block ≡ Some record { start = word payload at; end = word payload (at + 4) }) × (r.at ≡ at + 8)
+  pub none_left : length payload ≤ at + 8 → (r.block ≡ None) × (r.at ≡ at)
 
 module _ {M : Type 1} (𝓤 : Ura M) where
   open connectives 𝓤 use {⌜◌⌝}
@@ -216,7 +213,7 @@ module _ {M : Type 1} {𝓤 : Ura M} (𝓛 : Logic 𝓤) (mem : Memory → SProp
       (Equations (model_in.read (length buf.now)) s t before r after
       × Puts r.count (on_records (model_in.read (length buf.now)) s t before).bytes buf.now buf'.now
       × WhereRefused r.outcome ((r.stream ≡ s) × (r.totals ≡ t))
-      × (r.outcome ≡ Refused BrokenRecords → (held'.now ≡ held.now) × (buf'.now ≡ buf.now)))
+      × (r.outcome ≡ Err BrokenRecords → (held'.now ≡ held.now) × (buf'.now ≡ buf.now)))
 
   abbrev pub Close : Type 2
   Close =
@@ -268,7 +265,7 @@ module _ {M : Type 1} {𝓤 : Ura M} (𝓛 : Logic 𝓤) (mem : Memory → SProp
       Promises 𝓤 (c.requires tt) (c.ensures tt r y)
       ((length buf.now < 20 → undecoded_by r ≡ some 7)
       × ((get_or buf.now 0 0 ≡ 255 → get_or buf.now 1 0 ≡ 1 → ⊥) → undecoded_by r ≡ some 7)
-      × (20 ≤ length buf.now → get_or buf.now 0 0 ≡ 255 → get_or buf.now 1 0 ≡ 1 → r ≡ Packet (fields buf.now)))
+      × (20 ≤ length buf.now → get_or buf.now 0 0 ≡ 255 → get_or buf.now 1 0 ≡ 1 → r ≡ Ok (fields buf.now)))
 
   -- the block reader
 

@@ -44,7 +44,7 @@ use Rattle.udx_c.specs.contracts.udx_decode as decode
 use Rattle.udx_c.specs.contracts.udx_layout_stream as layout_stream
 use Rattle.udx_c.specs.contracts.udx_layout_totals as layout_totals
 use Rattle.udx_c.specs.contracts.udx_layout_step as layout_step
-use Rattle.promise_ways.specs.Calls.{opened_of}
+use Rattle.promise_ways.specs.Calls.{size_of, opened_of}
 use Rattle.promise_sentences.specs.Answers.{numbers_in_c}
 use Rattle.promise_sentences.specs.Calls.{Puts, fresh_numbers, OpenSays, LookShows, Promises}
 
@@ -53,7 +53,7 @@ pub record AnswerInNumbers (a : Answer) (r : FlatStep) (after : Lent) : Type 0 w
   pub outcome : r.outcome ≡ outcome_byte a.outcome
   pub refusal : r.refusal ≡ refusal_byte a.outcome
   pub count : r.count ≡ a.count
-  pub segment : segment_of r.segment ≡ a.segment
+  pub segment : segment_of (size_of r.segment) ≡ a.segment
   pub end : seen (stream_of r.stream) (totals_of r.totals) after ≡ a.end
   pub known : is_strange r.stream.ending ≡ false
 

@@ -1,7 +1,7 @@
 -- Demand 1 in 01's sentences for the calls with the totals lent: "The totals are one record that each call is lent and updates". As in
 -- Calls.antt, each from the call's field of `ContractsWithTotalsLent` (promise_ways/specs/LentTotals.antt). Statements only: the proofs are
 -- in proofs/CallsWithTotalsLent.antt.
-use Rattle.std.specs.Prelude.{◌≡◌, length}
+use Rattle.std.specs.Prelude.{◌≡◌, length, Err}
 use seplogic.Ra.Ura.{Ura}
 use base.Logic.{SProp}
 use prog.Memory.{Memory}
@@ -12,7 +12,6 @@ use contract.Monad.{Fun}
 use denote.Triple.Entry.{Args, Res}
 use denote.Triple.Clauses.{AtExit}
 use Rattle.error.specs.declared.Refusal.TheVariants.{BrokenRecords}
-use Rattle.error.specs.declared.Outcome.TheVariants.{Refused}
 use Rattle.model.specs.Sending as model
 use Rattle.model.specs.Receiving as model_in
 use Rattle.model.specs.Driving as model_out
@@ -102,7 +101,7 @@ module _ {M : Type 1} {𝓤 : Ura M} (𝓛 : Logic 𝓤) (mem : Memory → SProp
       (Equations (model_in.read (length buf.now)) s t.now before (whole r t'.now) after
       × Puts r.count (on_records (model_in.read (length buf.now)) s t.now before).bytes buf.now buf'.now
       × WhereRefused r.outcome ((r.stream ≡ s) × (t'.now ≡ t.now))
-      × (r.outcome ≡ Refused BrokenRecords → (held'.now ≡ held.now) × (buf'.now ≡ buf.now)))
+      × (r.outcome ≡ Err BrokenRecords → (held'.now ≡ held.now) × (buf'.now ≡ buf.now)))
 
   abbrev pub Close : Type 2
   Close =

@@ -2,12 +2,12 @@
 -- has after a call (`HistoryCounts` on the records and from C, `HistoryCountsInModel`), how a list of calls continues (`GoesOn`), and which
 -- lists are over a line (`AnyLine`, `AnyLineFromC`, `AnyMixedLine`, `AnyLineInModel`): all that 01 allows, so the two-end theorems leave
 -- none out. Statements only: the proofs are in proofs/Histories.antt.
-use Rattle.std.specs.Prelude.{ℕ, suc, ◌<◌, ◌≡◌, true, false, length, take}
+use Rattle.std.specs.Prelude.{ℕ, ◌<◌, ◌≡◌, true, false, length, take, None, Some, Result, Ok, Err}
 use mathlib.Core.List.{List, [], ◌∷◌, ◌++◌, Memᴰ}
 use Rattle.std.proofs.Math.Option.{none, some}
 use Rattle.error.specs.declared.Refusal.{Refusal}
 use Rattle.error.specs.declared.Outcome.{Outcome}
-use Rattle.error.specs.declared.Outcome.TheVariants.{Ready, Refused}
+use Rattle.error.specs.declared.Outcome.TheVariants.{Ready}
 use Rattle.packet.specs.Header.{fields, has_type}
 use Rattle.model.specs.Lists.{Bytes, cut}
 use Rattle.model.specs.Answers.{Answer}
@@ -40,20 +40,20 @@ pub record HistoryCounts : Type 0 where
   pub write_sends : (bytes buf : Bytes) (r : Step) (h : History) → (noted (to_write bytes) r buf h).pieces ≡ h.pieces ++ cut (length bytes) 1_380 (take r.count bytes)
   -- "Bytes that a refused read put are read."
   pub read_reads : (buf buf' : Bytes) (r : Step) (h : History) → (noted (to_read buf) r buf' h).reads ≡ h.reads ++ take r.count buf'
-  pub refused_read_reads : (buf buf' : Bytes) (r : Step) (h : History) (why : Refusal) → r.outcome ≡ Refused why
+  pub refused_read_reads : (buf buf' : Bytes) (r : Step) (h : History) (why : Refusal) → r.outcome ≡ Err why
       → (noted (to_read buf) r buf' h).reads ≡ h.reads ++ take r.count buf'
   -- a refused delivery adds nothing; an accepted one "brought as DATA" exactly its number
-  pub refused_delivery : (datagram : Bytes) (clock : ℕ) (r : Step) (buf : Bytes) (h : History) (why : Refusal) → r.outcome ≡ Refused why
+  pub refused_delivery : (datagram : Bytes) (clock : ℕ) (r : Step) (buf : Bytes) (h : History) (why : Refusal) → r.outcome ≡ Err why
       → noted (to_deliver datagram clock) r buf h ≡ h
-  pub data_delivery : (datagram : Bytes) (clock : ℕ) (r : Step) (buf : Bytes) (h : History) → r.outcome ≡ Ready → has_type 1 (fields datagram).typ ≡ true
+  pub data_delivery : (datagram : Bytes) (clock : ℕ) (r : Step) (buf : Bytes) (h : History) → r.outcome ≡ Ok Ready → has_type 1 (fields datagram).typ ≡ true
       → (noted (to_deliver datagram clock) r buf h).brought ≡ h.brought ++ ((fields datagram).seq ∷ [])
   pub other_delivery : (datagram : Bytes) (clock : ℕ) (r : Step) (buf : Bytes) (h : History) → has_type 1 (fields datagram).typ ≡ false
       → noted (to_deliver datagram clock) r buf h ≡ h
   -- "A batch's datagrams are its pieces of segment size, or all of it where it has none; an empty batch has no datagram, and only these
   -- datagrams count as taken"
-  pub takes_pieces : (buf buf' : Bytes) (r : Step) (h : History) (size : ℕ) → r.segment ≡ suc size
-      → (noted (to_take buf) r buf' h).taken ≡ h.taken ++ cut (length (take r.count buf')) (suc size) (take r.count buf')
-  pub takes_all : (buf buf' : Bytes) (r : Step) (h : History) (b : ℕ) (bytes : Bytes) → r.segment ≡ 0 → take r.count buf' ≡ b ∷ bytes
+  pub takes_pieces : (buf buf' : Bytes) (r : Step) (h : History) (size : ℕ) → r.segment ≡ Some size
+      → (noted (to_take buf) r buf' h).taken ≡ h.taken ++ cut (length (take r.count buf')) size (take r.count buf')
+  pub takes_all : (buf buf' : Bytes) (r : Step) (h : History) (b : ℕ) (bytes : Bytes) → r.segment ≡ None → take r.count buf' ≡ b ∷ bytes
       → (noted (to_take buf) r buf' h).taken ≡ h.taken ++ ((b ∷ bytes) ∷ [])
   pub takes_none : (buf buf' : Bytes) (r : Step) (h : History) → r.count ≡ 0 → (noted (to_take buf) r buf' h).taken ≡ h.taken
 
@@ -62,9 +62,9 @@ pub record HistoryCountsInModel : Type 0 where
   pub write_accepts : (bytes : Bytes) (a : Answer) (h : History) → (model.noted (write_call bytes) a h).accepted ≡ h.accepted ++ take a.count bytes
   pub write_sends : (bytes : Bytes) (a : Answer) (h : History) → (model.noted (write_call bytes) a h).pieces ≡ h.pieces ++ cut (length bytes) 1_380 (take a.count bytes)
   pub read_reads : (room : ℕ) (a : Answer) (h : History) → (model.noted (read_call room) a h).reads ≡ h.reads ++ a.bytes
-  pub refused_delivery : (datagram : Bytes) (clock : ℕ) (a : Answer) (h : History) (why : Refusal) → a.outcome ≡ Refused why
+  pub refused_delivery : (datagram : Bytes) (clock : ℕ) (a : Answer) (h : History) (why : Refusal) → a.outcome ≡ Err why
       → model.noted (deliver_call datagram clock) a h ≡ h
-  pub data_delivery : (datagram : Bytes) (clock : ℕ) (a : Answer) (h : History) → a.outcome ≡ Ready → has_type 1 (fields datagram).typ ≡ true
+  pub data_delivery : (datagram : Bytes) (clock : ℕ) (a : Answer) (h : History) → a.outcome ≡ Ok Ready → has_type 1 (fields datagram).typ ≡ true
       → (model.noted (deliver_call datagram clock) a h).brought ≡ h.brought ++ ((fields datagram).seq ∷ [])
   pub other_delivery : (datagram : Bytes) (clock : ℕ) (a : Answer) (h : History) → has_type 1 (fields datagram).typ ≡ false
       → model.noted (deliver_call datagram clock) a h ≡ h
@@ -137,16 +137,16 @@ NoDelivery q = (datagram : Bytes) (clock : ℕ) → q ≡ to_deliver datagram cl
 
 -- "each delivery a copy of such a datagram; only a refused delivery may bring other bytes": `taken` are the other end's datagrams; a
 -- refused delivery may bring any
-pub data Allowed (taken : List Bytes) (o : Outcome) : Request → Type 0 where
+pub data Allowed (taken : List Bytes) (o : Result Outcome Refusal) : Request → Type 0 where
   no_delivery : {q : Request} → NoDelivery q → Allowed taken o q
   copy : {datagram : Bytes} {clock : ℕ} → Memᴰ datagram taken → Allowed taken o (to_deliver datagram clock)
-  refused : {datagram : Bytes} {clock : ℕ} (why : Refusal) → o ≡ Refused why → Allowed taken o (to_deliver datagram clock)
+  refused : {datagram : Bytes} {clock : ℕ} (why : Refusal) → o ≡ Err why → Allowed taken o (to_deliver datagram clock)
 
 -- Any two ends that open handed out are a start, and any such call at either end extends a list over the line; reads alone are any "1,380
 -- at a time, .. up to the first that puts none". Likewise for lists of calls on one end, with any datagrams.
 pub record AnyLine : Type 0 where
   pub opened : (local remote segments clock : ℕ) (l : Lent) (o : Opened) → Opens local remote segments clock l.outgoing l.incoming l.headers o
-      → o.outcome ≡ Ready → OpenedBy local remote segments clock l o
+      → o.outcome ≡ Ok Ready → OpenedBy local remote segments clock l o
   pub none_yet : (w : Ends) → OverALine [] w
   pub on-a : (v : Event) (cs : List Turn) (w : Ends) → Did w.a.records v → Allowed w.b.past.taken v.step.outcome v.request
       → OverALine cs (turned (on_a v) w) → OverALine (on_a v ∷ cs) w
@@ -200,10 +200,10 @@ pub record AnyMixedLine : Type 0 where
 abbrev pub NoDeliveryCall : Call → Type 0
 NoDeliveryCall q = (datagram : Bytes) (clock : ℕ) → q ≡ deliver_call datagram clock → ⊥
 
-pub data AllowedCall (taken : List Bytes) (o : Outcome) : Call → Type 0 where
+pub data AllowedCall (taken : List Bytes) (o : Result Outcome Refusal) : Call → Type 0 where
   no_delivery : {q : Call} → NoDeliveryCall q → AllowedCall taken o q
   copy : {datagram : Bytes} {clock : ℕ} → Memᴰ datagram taken → AllowedCall taken o (deliver_call datagram clock)
-  refused : {datagram : Bytes} {clock : ℕ} (why : Refusal) → o ≡ Refused why → AllowedCall taken o (deliver_call datagram clock)
+  refused : {datagram : Bytes} {clock : ℕ} (why : Refusal) → o ≡ Err why → AllowedCall taken o (deliver_call datagram clock)
 
 pub record AnyLineInModel : Type 0 where
   -- an id is any 4-byte number (01, 'Records': "stream id (4)")

@@ -2,7 +2,9 @@
 -- number, no other number is returned, and the call is not refused if none applies (`InOrder`); then what a read returns for the stream's
 -- error, and what header coding refuses. Each follows from a field of `RefusalsInOrder` (model/specs/Order.antt); the one for open on the
 -- records is stated here. Statements only: the proofs are in proofs/Refusals.antt.
-use Rattle.std.specs.Prelude.{ℕ, ◌<◌, ◌≡◌, ◌⊎◌, ◌↔◌, true, false, length, drop, get_or}
+use Rattle.std.specs.Prelude as rust
+use Rattle.error.specs.declared.Refusal.{Refusal}
+use Rattle.std.specs.Prelude.{ℕ, ◌<◌, ◌≡◌, ◌⊎◌, ◌↔◌, true, false, length, drop, get_or, Result, None, Some, ⊤}
 use mathlib.Core.List.{List, [], ◌∷◌, map, Memᴰ}
 use Rattle.std.proofs.Math.Option.{Option, none, some}
 use Rattle.error.specs.declared.UdxError.{UdxError}
@@ -28,19 +30,19 @@ abbrev pub no_test : Test
 no_test = record { holds = false; refusal = BrokenRecords }
 
 -- "in checking order": the first of these tests that holds is answered by its number in 01's list
-abbrev pub FirstAnswers : List Test → List ℕ → Outcome → Type 0
+abbrev pub FirstAnswers : List Test → List ℕ → Result Outcome Refusal → Type 0
 FirstAnswers tests numbers o =
     (k : ℕ) → (get_or tests k no_test).holds ≡ true → ((j : ℕ) → j < k → (get_or tests j no_test).holds ≡ false) → refused_by o ≡ some (get_or numbers k 0)
 
 -- a call is refused with these numbers only
-abbrev pub NoOther : List ℕ → Outcome → Type 0
+abbrev pub NoOther : List ℕ → Result Outcome Refusal → Type 0
 NoOther numbers o = (n : ℕ) → refused_by o ≡ some n → Memᴰ n numbers
 
 abbrev pub NoneHolds : List Test → Type 0
 NoneHolds tests = (k : ℕ) → (get_or tests k no_test).holds ≡ false
 
 -- and if no test holds it is not refused
-abbrev pub InOrder : List Test → List ℕ → Outcome → Type 0
+abbrev pub InOrder : List Test → List ℕ → Result Outcome Refusal → Type 0
 InOrder tests numbers o = FirstAnswers tests numbers o × NoOther numbers o × (NoneHolds tests → refused_by o ≡ none)
 
 pub record OpenRefusals : Type 0 where
@@ -49,11 +51,11 @@ pub record OpenRefusals : Type 0 where
       → open_why segments clock outgoing incoming headers ≡ first (open_tests_on (stores_test outgoing incoming headers) segments clock)
 
 -- refusals 14, 15 and 16
-abbrev pub error_number : UdxError → Option ℕ
-error_number error.None = none
-error_number error.ConnectionReset = some 14
-error_number error.UnexpectedEof = some 15
-error_number error.TimedOut = some 16
+abbrev pub error_number : rust.Option UdxError → Option ℕ
+error_number None = none
+error_number (Some error.ConnectionReset) = some 14
+error_number (Some error.UnexpectedEof) = some 15
+error_number (Some error.TimedOut) = some 16
 
 -- "its first bytes aren't 255, 1"
 abbrev pub OtherBytes : Bytes → Type 0
@@ -73,12 +75,12 @@ pub record RefusalSentences : Type 0 where
   pub read_in_order : (room : ℕ) (e : End)
       → FirstAnswers (read_tests e) (1 ∷ []) (read room e).outcome
       × NoOther (1 ∷ 14 ∷ 15 ∷ 16 ∷ []) (read room e).outcome
-      × (NoneHolds (read_tests e) → e.ending.error ≡ error.None → refused_by (read room e).outcome ≡ none)
+      × (NoneHolds (read_tests e) → e.ending.error ≡ None → refused_by (read room e).outcome ≡ none)
   -- "Ready only if a packet was finished, else the error, else waiting"; 14 to 16: "Write or read meets" it
   pub read_meets : (room : ℕ) (e : End) → rules e ≡ true → (read_next room e.receiver).ready ≡ false → (n : ℕ)
       → error_number e.ending.error ≡ some n → refused_by (read room e).outcome ≡ some n
   pub read_finishes : (room : ℕ) (e : End) → rules e ≡ true → (read_next room e.receiver).ready ≡ true → refused_by (read room e).outcome ≡ none
   -- 2: "Encode has under 20 bytes"
-  pub encode_refused : (h : Header) (before after : Bytes) (r : Outcome) → Encodes h before after r → (refused_by r ≡ some 2) ↔ (length before < 20)
+  pub encode_refused : (h : Header) (before after : Bytes) (r : Result ⊤ Refusal) → Encodes h before after r → (refused_by r ≡ some 2) ↔ (length before < 20)
   -- 7: "A header is under 20 bytes or its first bytes aren't 255, 1."
   pub decode_refused : (bytes : Bytes) → (undecoded_by (decoded bytes) ≡ some 7) ↔ ((length bytes < 20) ⊎ OtherBytes bytes)

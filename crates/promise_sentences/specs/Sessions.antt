@@ -41,7 +41,7 @@ module _ {M : Type 1} {𝓤 : Ura M} (𝓛 : Logic 𝓤) (mem : Memory → SProp
   -- "ends 0 (id 1) and 1 (id 2), opened at clock 0 with ceiling 10": the two that the program runs, over its own stores
   abbrev pub Opening : Type 2
   Opening =
-      (κs : Lfts 6) (x : Args open-ends.signature κs) (r : Res open-ends.signature κs) (y : AtExit open-ends.ended κs)
+      (κs : Lfts 2) (x : Args open-ends.signature κs) (r : Res open-ends.signature κs) (y : AtExit open-ends.ended κs)
       → let c = open-ends.clauses 𝓛 mem run κs x in
       Promises 𝓤 (c.requires tt) (c.ensures tt r y)
       ((numbers_on r.zero.stream r.zero.totals ≡ fresh_numbers 1 2 10 0) × (numbers_on r.one.stream r.one.totals ≡ fresh_numbers 2 1 10 0))
@@ -49,10 +49,12 @@ module _ {M : Type 1} {𝓤 : Ura M} (𝓛 : Logic 𝓤) (mem : Memory → SProp
   -- a turn advances in the script and puts the line that the definition has for it
   abbrev pub Turns : Type 2
   Turns =
-      (κs : Lfts 11) (x : Args run-one.signature κs) (r : Res run-one.signature κs) (y : AtExit run-one.ended κs)
-      → let (w, (script, (at, (o₀, (i₀, (h₀, (k₀, (o₁, (i₁, (h₁, (k₁, (_, (_, _))))))))))))) = x in
-      let (_, (_, (_, (_, (_, (_, (_, (_, (_, (_, (_, (_, (line', _))))))))))))) = y in
-      let d = lends o₀.now i₀.now h₀.now k₀.now o₁.now i₁.now h₁.now k₁.now in
+      (κs : Lfts 5) (x : Args run-one.signature κs) (r : Res run-one.signature κs) (y : AtExit run-one.ended κs)
+      → let (w, (script, (at, (zero, (one, (_, (_, _))))))) = x in
+      let (_, (_, (_, (_, (_, (_, (line', _))))))) = y in
+      let z = zero.now in
+      let o = one.now in
+      let d = lends z.outgoing z.incoming z.headers z.kept o.outgoing o.incoming o.headers o.kept in
       let c = run-one.clauses 𝓛 mem run κs x in
       Promises 𝓤 (c.requires tt) (c.ensures tt r y) (at < length script.now → (at < r.next) × (r.next ≤ length script.now))
       × Promises 𝓤 (c.requires tt) (c.ensures tt r y)

@@ -2,9 +2,8 @@
 -- with packets queued, queuing everything in the first drive and idling later, inventing inflight or totals." What an answer must satisfy,
 -- given the end before the call, to be none of these (`LiveAnswer`), each from a field of `NotDead` (model/specs/NotDead.antt). Statements
 -- only: the proof is in proofs/ShutOut.antt.
-use Rattle.std.specs.Prelude.{ℕ, ◌+◌, ◌*◌, ◌%◌, ◌^◌, ◌≤◌, ◌<◌, min, ◌≡◌, List, [], ◌∷◌, ◌++◌, ◌⊎◌, true, length}
+use Rattle.std.specs.Prelude.{ℕ, ◌+◌, ◌*◌, ◌%◌, ◌^◌, ◌≤◌, ◌<◌, min, ◌≡◌, List, [], ◌∷◌, ◌++◌, ◌⊎◌, true, length, Ok, None}
 use Rattle.std.proofs.Math.Option.{none, some}
-use Rattle.error.specs.declared.UdxError.TheVariants as error
 use Rattle.error.specs.declared.Outcome.TheVariants.{Ready, Done, Nothing}
 use Rattle.model.specs.Lists.{Bytes}
 use Rattle.model.specs.Slots.{get}
@@ -17,7 +16,7 @@ use Rattle.model.specs.Calls.{Call, write_call, deliver_call, drive_call, take_c
 
 pub record LiveWrite (bytes : Bytes) (e : End) (a : Answer) : Type 0 where
   -- "answering waiting to all writes": if the first piece goes, it is accepted
-  pub accepts : write_refusal bytes e ≡ none → 1 ≤ length bytes → goes (piece bytes) e.sender ≡ true → (a.outcome ≡ Ready) × (min (length bytes) 1_380 ≤ a.count)
+  pub accepts : write_refusal bytes e ≡ none → 1 ≤ length bytes → goes (piece bytes) e.sender ≡ true → (a.outcome ≡ Ok Ready) × (min (length bytes) 1_380 ≤ a.count)
   -- "inventing inflight or totals": each piece that went counts once, with 20 bytes of header in flight
   pub counts : (pieces : ℕ)
       × (a.end.sender.seq ≡ e.sender.seq + pieces)
@@ -30,14 +29,14 @@ pub record LiveWrite (bytes : Bytes) (e : End) (a : Answer) : Type 0 where
       × (a.end.totals.rx_bytes ≡ e.totals.rx_bytes)
 
 pub record LiveDrive (clock : ℕ) (e : End) (a : Answer) : Type 0 where
-  pub goes_on : drive_refusal clock e ≡ none → (a.outcome ≡ Ready) ⊎ (a.outcome ≡ Done)
+  pub goes_on : drive_refusal clock e ≡ none → (a.outcome ≡ Ok Ready) ⊎ (a.outcome ≡ Ok Done)
   -- "answering done .. with packets queued", or stored
-  pub done : a.outcome ≡ Done → (e.ending.error ≡ error.None → ⊥) × (e.queue.entries ≡ []) × ((n : ℕ) → get e.sender.outgoing n ≡ none)
+  pub done : a.outcome ≡ Ok Done → (e.ending.error ≡ None → ⊥) × (e.queue.entries ≡ []) × ((n : ℕ) → get e.sender.outgoing n ≡ none)
   -- "queuing everything in the first drive and idling later": what was queued still is, all of it is left to take, and a packet waits only
   -- if the window has no room for the lowest waiting one
-  pub still_queued : a.outcome ≡ Ready → (more : List Entry) × (a.end.queue.entries ≡ e.queue.entries ++ more)
-  pub all_left : a.outcome ≡ Ready → a.end.queue.left ≡ length a.end.queue.entries
-  pub waits_for_room : a.outcome ≡ Ready → (n : ℕ) (p : Packet) → get a.end.sender.outgoing n ≡ some p → p.marks.waiting ≡ true
+  pub still_queued : a.outcome ≡ Ok Ready → (more : List Entry) × (a.end.queue.entries ≡ e.queue.entries ++ more)
+  pub all_left : a.outcome ≡ Ok Ready → a.end.queue.left ≡ length a.end.queue.entries
+  pub waits_for_room : a.outcome ≡ Ok Ready → (n : ℕ) (p : Packet) → get a.end.sender.outgoing n ≡ some p → p.marks.waiting ≡ true
       → (m : ℕ)
       × (q : Packet)
       × (get a.end.sender.outgoing m ≡ some q)
@@ -47,8 +46,8 @@ pub record LiveDrive (clock : ℕ) (e : End) (a : Answer) : Type 0 where
 
 pub record LiveTake (room : ℕ) (e : End) (a : Answer) : Type 0 where
   -- "answering .. none with packets queued"
-  pub none_left : a.outcome ≡ Nothing → e.queue.left ≡ 0
-  pub takes : take_refusal room e ≡ none → 0 < e.queue.left → (a.outcome ≡ Ready) × (a.end.queue.left < e.queue.left)
+  pub none_left : a.outcome ≡ Ok Nothing → e.queue.left ≡ 0
+  pub takes : take_refusal room e ≡ none → 0 < e.queue.left → (a.outcome ≡ Ok Ready) × (a.end.queue.left < e.queue.left)
   -- the first entry's bytes come first
   pub takes_state : take_refusal room e ≡ none → 0 < e.queue.left → (bytes : Bytes) (q : List Entry) → e.queue.entries ≡ state bytes ∷ q
       → (rest : Bytes) × (a.bytes ≡ bytes ++ rest)
@@ -60,7 +59,7 @@ pub record LiveTake (room : ℕ) (e : End) (a : Answer) : Type 0 where
 abbrev pub LiveAnswer : Call → End → Answer → Type 0
 LiveAnswer (write_call bytes) e a = LiveWrite bytes e a
 -- "refusing every datagram"
-LiveAnswer (deliver_call datagram clock) e a = deliver_refusal datagram clock e ≡ none → a.outcome ≡ Ready
+LiveAnswer (deliver_call datagram clock) e a = deliver_refusal datagram clock e ≡ none → a.outcome ≡ Ok Ready
 LiveAnswer (drive_call clock) e a = LiveDrive clock e a
 LiveAnswer (take_call room) e a = LiveTake room e a
 -- "inventing inflight or totals"

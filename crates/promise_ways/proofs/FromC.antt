@@ -6,6 +6,8 @@ use native.Mathlib.Omega.{arith}
 use mathlib.Core.Path.{◌≡◌, refl, ap, sym, ◌∙◌}
 use mathlib.Core.Bool.{false}
 use mathlib.Core.List.{List, [], ◌∷◌}
+use borrow.Author.Tests.{ne_eqb}
+use Rattle.std.specs.Prelude.{◌≢◌, Option, None, Some, Result, Ok, Err}
 use Rattle.error.specs.Answers.{number_of}
 use Rattle.error.specs.declared.Refusal.{Refusal}
 use Rattle.error.specs.declared.Refusal.TheVariants as refusal
@@ -19,7 +21,7 @@ use Rattle.records.specs.declared.Totals.{Totals}
 use Rattle.records.specs.declared.«open».Opened.{Opened}
 use Rattle.records.specs.Seen.{Lent}
 use Rattle.udx_steps.specs.declared.step.Step.{Step}
-use Rattle.promise.specs.Runs.{Request, to_write, to_deliver, to_drive, to_take, to_read, to_close, DidWith, Run, last_of, calls_of, OpenedBy, handed_out, Same}
+use Rattle.promise.specs.Runs.{Request, to_write, to_deliver, to_drive, to_take, to_read, to_close, DidWith, Run, last_of, calls_of, OpenedBy, Same}
 use Rattle.promise.specs.TwoEndsOnRecords as records
 use Rattle.promise.proofs.Runs.{same_as_model}
 use Rattle.promise.proofs.TwoEndsOnRecords.{two_ends_on_records}
@@ -27,7 +29,7 @@ use Rattle.udx_c_numbers.specs.declared.structs.FlatStream.{FlatStream}
 use Rattle.udx_c_numbers.specs.declared.structs.FlatTotals.{FlatTotals}
 use Rattle.udx_c_numbers.specs.declared.structs.FlatStep.{FlatStep}
 use Rattle.udx_c_numbers.specs.Bytes.{is_strange, outcome_byte, refusal_byte}
-use Rattle.udx_c_numbers.specs.Flat.{stream_of, totals_of, flat_step, flat_opened}
+use Rattle.udx_c_numbers.specs.Flat.{stream_of, totals_of, segment_number, flat_step, flat_opened}
 use Rattle.udx_c_numbers.proofs.RoundTrip.{comes_back}
 use Rattle.udx_c.specs.Crosses.{Called}
 use Rattle.udx_c.proofs.ShownLaws.{looks_shown}
@@ -41,6 +43,7 @@ use Rattle.promise_ways.specs.Calls.{
   plain_opened,
   refusal_of,
   outcome_of,
+  size_of,
   step_of,
   opened_of,
   records_of,
@@ -71,16 +74,20 @@ refusal_back refusal.UnexpectedEof = refl
 refusal_back refusal.TimedOut = refl
 refusal_back refusal.SeqExhausted = refl
 
-outcome_back : (o : Outcome) → outcome_of (outcome_byte o) (refusal_byte o) ≡ o
-outcome_back outcome.Ready = refl
-outcome_back outcome.Waiting = refl
-outcome_back outcome.Done = refl
-outcome_back outcome.Nothing = refl
-outcome_back (outcome.Refused why) = ap outcome.Refused (refusal_back why)
+outcome_back : (o : Result Outcome Refusal) → outcome_of (outcome_byte o) (refusal_byte o) ≡ o
+outcome_back (Ok outcome.Ready) = refl
+outcome_back (Ok outcome.Waiting) = refl
+outcome_back (Ok outcome.Done) = refl
+outcome_back (Ok outcome.Nothing) = refl
+outcome_back (Err why) = ap Err (refusal_back why)
 
-pub step_back : (r : Step) → step_of (flat_step r) ≡ r
+pub size_back : (size : Option ℕ) → size ≢ Some 0 → size_of (segment_number size) ≡ size
+size_back None h = refl
+size_back (Some n) h = rw (ne_eqb n 0 (λ e. h (ap Some e))) refl
+
+pub step_back : (r : Step) → r.segment ≢ Some 0 → step_of (flat_step r) ≡ r
 unfolding flat_step
-step_back r = rw (comes_back.stream r.stream, comes_back.totals r.totals, outcome_back r.outcome) refl
+step_back r h = rw (comes_back.stream r.stream, comes_back.totals r.totals, outcome_back r.outcome, size_back r.segment h) refl
 
 pub opened_back : (o : Opened) → opened_of (flat_opened o) ≡ o
 unfolding flat_opened
@@ -98,14 +105,14 @@ opened_known o = comes_back.known o.stream
 pub one_is : (why : Refusal) → number_of why ≡ 1 → why ≡ refusal.BrokenRecords
 one_is why e = sym (refusal_back why) ∙ ap refusal_of e
 
-pub broken_is : (o : Outcome) → refusal_byte o ≡ 1 → o ≡ outcome.Refused refusal.BrokenRecords
-broken_is outcome.Ready e = absurd (omega arith)
-broken_is outcome.Waiting e = absurd (omega arith)
-broken_is outcome.Done e = absurd (omega arith)
-broken_is outcome.Nothing e = absurd (omega arith)
-broken_is (outcome.Refused why) e = ap outcome.Refused (one_is why e)
+pub broken_is : (o : Result Outcome Refusal) → refusal_byte o ≡ 1 → o ≡ Err refusal.BrokenRecords
+broken_is (Ok outcome.Ready) e = absurd (omega arith)
+broken_is (Ok outcome.Waiting) e = absurd (omega arith)
+broken_is (Ok outcome.Done) e = absurd (omega arith)
+broken_is (Ok outcome.Nothing) e = absurd (omega arith)
+broken_is (Err why) e = ap Err (one_is why e)
 
-step_broken : (r : Step) → (flat_step r).refusal ≡ 1 → r.outcome ≡ outcome.Refused refusal.BrokenRecords
+step_broken : (r : Step) → (flat_step r).refusal ≡ 1 → r.outcome ≡ Err refusal.BrokenRecords
 unfolding flat_step
 step_broken r e = broken_is r.outcome e
 
@@ -114,14 +121,14 @@ step_broken r e = broken_is r.outcome e
 pub record Done (r : FlatStep) (did : Type 0) : Type 0 where
   pub does : did
   pub known : is_strange r.stream.ending ≡ false
-  pub broken : r.refusal ≡ 1 → (step_of r).outcome ≡ outcome.Refused refusal.BrokenRecords
+  pub broken : r.refusal ≡ 1 → (step_of r).outcome ≡ Err refusal.BrokenRecords
 
 module _
     (call : Stream → Totals → Lent → Step → Lent → Type 0) (s : FlatStream) (t : FlatTotals) (l : Lent) (r : FlatStep) (m : Lent)
-    (c : Called call s t l r m) where
+    (not_zero : (q : Step) → call (stream_of s) (totals_of t) l q m → q.segment ≢ Some 0) (c : Called call s t l r m) where
   called : Done r (call (stream_of s) (totals_of t) l (step_of r) m)
   called =
-      let back = ap step_of c.flat ∙ step_back c.step in
+      let back = ap step_of c.flat ∙ step_back c.step (not_zero c.step c.does) in
       record {
         does = rw back c.does;
         known = rw c.flat (step_known c.step);
@@ -130,12 +137,12 @@ module _
 
 pub one : (x : Plain) (q : Request) (r : FlatStep) (m : Lent) (buf' : Bytes) → is_strange x.stream.ending ≡ false → PlainDidWith x q r m buf'
     → Done r (DidWith (records_of x) q (step_of r) m buf')
-one x (to_write bytes) r m buf' k d = called _ x.stream x.totals x.lent r m (d.known k)
-one x (to_deliver datagram clock) r m buf' k d = called _ x.stream x.totals x.lent r m (d.known k)
-one x (to_drive clock) r m buf' k d = called _ x.stream x.totals x.lent r m (d.known k)
-one x (to_take buf) r m buf' k d = called _ x.stream x.totals x.lent r m (d.0.known k)
-one x (to_read buf) r m buf' k d = called _ x.stream x.totals x.lent r m (d.0.known k)
-one x to_close r m buf' k d = called _ x.stream x.totals x.lent r m (d.known k)
+one x (to_write bytes) r m buf' k d = called _ x.stream x.totals x.lent r m (λ q did. did.agrees.not_zero) (d.known k)
+one x (to_deliver datagram clock) r m buf' k d = called _ x.stream x.totals x.lent r m (λ q did. did.agrees.not_zero) (d.known k)
+one x (to_drive clock) r m buf' k d = called _ x.stream x.totals x.lent r m (λ q did. did.agrees.not_zero) (d.known k)
+one x (to_take buf) r m buf' k d = called _ x.stream x.totals x.lent r m (λ q did. did.answers.agrees.not_zero) (d.0.known k)
+one x (to_read buf) r m buf' k d = called _ x.stream x.totals x.lent r m (λ q did. did.agrees.not_zero) (d.0.known k)
+one x to_close r m buf' k d = called _ x.stream x.totals x.lent r m (λ q did. did.agrees.not_zero) (d.known k)
 
 -- an open
 

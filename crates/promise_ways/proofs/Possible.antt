@@ -6,6 +6,7 @@ use mathlib.Core.Path.{◌≡◌, refl, sym, ap, ap₂, ◌∙◌, subst}
 use mathlib.Core.Bool.{true, false, true≢false}
 use mathlib.Core.List.{List, [], ◌∷◌, ◌++◌}
 use lib.ListN.{drop}
+use Rattle.std.specs.Prelude.{◌≢◌, Some}
 use Rattle.model.specs.Lists.{Bytes, joined}
 use Rattle.model_ends.specs.TwoEnds.{no_history}
 use Rattle.records.specs.declared.Stream.{Stream}
@@ -20,7 +21,7 @@ use Rattle.promise.proofs.EveryCall.{every_run}
 use Rattle.promise.proofs.Line.{LaidSide, BothLaid, call_laid}
 use Rattle.promise.proofs.Runs.{open_stands}
 use Rattle.promise.proofs.Possible.{every_line, possible}
-use Rattle.promise.proofs.ReadOut.{Reads, reads_at, stands_laid}
+use Rattle.promise.proofs.ReadOut.{reads_at, stands_laid}
 use Rattle.udx_c_numbers.specs.declared.structs.FlatStep.{FlatStep}
 use Rattle.udx_c_numbers.specs.Bytes.{is_strange}
 use Rattle.udx_c_numbers.specs.Flat.{stream_of, totals_of, flat_step, flat_opened}
@@ -36,8 +37,28 @@ use Rattle.promise_ways.proofs.FromC.{step_back, opened_back, step_known, opened
 abbrev plain_of : Event → PlainEvent
 plain_of v = record { request = v.request; step = flat_step v.step; lent = v.lent; buf = v.buf }
 
-stands_for : (v : Event) → event_of (plain_of v) ≡ v
-stands_for v = ap (λ (r : Step). record { request = v.request; step = r; lent = v.lent; buf = v.buf }) (step_back v.step)
+not_zero_with : (x : Records) (q : Request) (r : Step) (m : Lent) (buf' : Bytes) → DidWith x q r m buf' → r.segment ≢ Some 0
+not_zero_with x (to_write bytes) r m buf' d = d.agrees.not_zero
+not_zero_with x (to_deliver datagram clock) r m buf' d = d.agrees.not_zero
+not_zero_with x (to_drive clock) r m buf' d = d.agrees.not_zero
+not_zero_with x (to_take buf) r m buf' d = d.answers.agrees.not_zero
+not_zero_with x (to_read buf) r m buf' d = d.agrees.not_zero
+not_zero_with x to_close r m buf' d = d.agrees.not_zero
+
+module _ (x : Records) (v : Event) (d : Did x v) where
+  comes_back : step_of (flat_step v.step) ≡ v.step
+  comes_back = step_back v.step (not_zero_with x v.request v.step v.lent v.buf d)
+
+  stands_for : event_of (plain_of v) ≡ v
+  stands_for = ap (λ (r : Step). record { request = v.request; step = r; lent = v.lent; buf = v.buf }) comes_back
+
+  -- the numbers left stand for the records left
+  left_for : records_of (plain_left (plain_of v)) ≡ left v
+  left_for = ap left stands_for
+
+  -- the numbers preserve the outcome, and so `Brings`
+  brings : (y : PlainSide) → records.Brings v.request v.step.outcome (side_of y) → records.Brings v.request (step_of (flat_step v.step)).outcome (side_of y)
+  brings y b = subst (λ (r : Step). records.Brings v.request r.outcome (side_of y)) (sym comes_back) b
 
 module _ (x : Plain) (k : is_strange x.stream.ending ≡ false) where
   never : {A : Type 0} → is_strange x.stream.ending ≡ true → A
@@ -58,10 +79,6 @@ module _ (x : Plain) (k : is_strange x.stream.ending ≡ false) where
   did_plain : (v : Event) → Did (records_of x) v → PlainDid x (plain_of v)
   did_plain v d = did_with v.request v.step v.lent v.buf d
 
--- the numbers left stand for the records left
-left_for : (v : Event) → records_of (plain_left (plain_of v)) ≡ left v
-left_for v = ap left (stands_for v)
-
 -- lists of calls on one end
 
 run_plain : (qs : List Request) (vs : List Event) (x : Plain) → is_strange x.stream.ending ≡ false → Makes qs vs (records_of x)
@@ -71,7 +88,7 @@ run_plain [] (v ∷ vs) x k m = absurd m
 run_plain (q ∷ qs) [] x k m = absurd m
 run_plain (q ∷ qs) (v ∷ vs) x k m =
     let (e, d, n, rest) = m in
-    let (events, made) = run_plain qs vs (plain_left (plain_of v)) (step_known v.step) (subst (Makes qs vs) (sym (left_for v)) rest) in
+    let (events, made) = run_plain qs vs (plain_left (plain_of v)) (step_known v.step) (subst (Makes qs vs) (sym (left_for (records_of x) v d)) rest) in
     (plain_of v ∷ events, (e, did_plain x k v d, n, made))
 
 -- an open
@@ -103,30 +120,26 @@ record InC (turns : List records.Turn) (p : PlainEnds) : Type 0 where
   line : PlainOverALine plain p
   last : ends_of (plain_last_of plain p) ≡ records.last_of turns (ends_of p)
 
--- the numbers preserve the outcome, and so `Brings`
-brings : (v : Event) (y : PlainSide) → records.Brings v.request v.step.outcome (side_of y) → records.Brings v.request (step_of (flat_step v.step)).outcome (side_of y)
-brings v y b = subst (λ (r : Step). records.Brings v.request r.outcome (side_of y)) (sym (step_back v.step)) b
-
 line_plain : (turns : List records.Turn) (p : PlainEnds) → Known p → records.OverALine turns (ends_of p) → InC turns p
 line_plain [] p k f = record { plain = []; asked = refl; line = tt; last = refl }
 line_plain (records.on_a v ∷ cs) p k f =
-    let next = ap (λ (u : Event). records.turned (records.on_a u) (ends_of p)) (stands_for v) in
+    let next = ap (λ (u : Event). records.turned (records.on_a u) (ends_of p)) (stands_for (records_of p.a.plain) v f.0.0) in
     let p' = plain_turned (on_a (plain_of v)) p in
     let rest = line_plain cs p' (step_known v.step, k.1) (subst (records.OverALine cs) (sym next) f.1) in
     record {
       plain = on_a (plain_of v) ∷ rest.plain;
       asked = ap (λ (a : List Asked). of_a v.request ∷ a) rest.asked;
-      line = ((did_plain p.a.plain k.0 v f.0.0, brings v p.b f.0.1), rest.line);
+      line = ((did_plain p.a.plain k.0 v f.0.0, brings (records_of p.a.plain) v f.0.0 p.b f.0.1), rest.line);
       last = rest.last ∙ ap (records.last_of cs) next;
     }
 line_plain (records.on_b v ∷ cs) p k f =
-    let next = ap (λ (u : Event). records.turned (records.on_b u) (ends_of p)) (stands_for v) in
+    let next = ap (λ (u : Event). records.turned (records.on_b u) (ends_of p)) (stands_for (records_of p.b.plain) v f.0.0) in
     let p' = plain_turned (on_b (plain_of v)) p in
     let rest = line_plain cs p' (k.0, step_known v.step) (subst (records.OverALine cs) (sym next) f.1) in
     record {
       plain = on_b (plain_of v) ∷ rest.plain;
       asked = ap (λ (a : List Asked). of_b v.request ∷ a) rest.asked;
-      line = ((did_plain p.b.plain k.1 v f.0.0, brings v p.a f.0.1), rest.line);
+      line = ((did_plain p.b.plain k.1 v f.0.0, brings (records_of p.b.plain) v f.0.0 p.a f.0.1), rest.line);
       last = rest.last ∙ ap (records.last_of cs) next;
     }
 
@@ -191,7 +204,7 @@ reads_plain : (vs : List Event) (last : Event) (x : Plain) → is_strange x.stre
 unfolding flat_step
 reads_plain [] last x k h = record { reads = []; last = plain_of last; alone = (h.0, did_plain x k last h.1, h.2) }
 reads_plain (v ∷ vs) last x k h =
-    let t = reads_plain vs last (plain_left (plain_of v)) (step_known v.step) (subst (records.ReadsAlone vs last) (sym (left_for v)) h.2) in
+    let t = reads_plain vs last (plain_left (plain_of v)) (step_known v.step) (subst (records.ReadsAlone vs last) (sym (left_for (records_of x) v h.1)) h.2) in
     record { reads = plain_of v ∷ t.reads; last = t.last; alone = (h.0, did_plain x k v h.1, t.alone) }
 
 -- after calls from C the numbers still stand for records that are laid out

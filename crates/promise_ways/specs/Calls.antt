@@ -1,6 +1,6 @@
 -- Calls on plain numbers, as a caller in C or Rust makes them, and what they are on the records. Such a call is exactly what the contract
 -- of the C function says (`PlainDid`; Contracts.antt states that it is that contract word for word).
-use Rattle.std.specs.Prelude.{ℕ, ◌-◌, ◌≡◌, true, cond, List, [], ◌∷◌, eqb, get_or}
+use Rattle.std.specs.Prelude.{ℕ, ◌-◌, ◌≡◌, true, cond, List, [], ◌∷◌, eqb, get_or, Option, None, Some, Result, Ok, Err}
 use Rattle.error.specs.declared.Refusal.{Refusal}
 use Rattle.error.specs.declared.Refusal.TheVariants as refusal
 use Rattle.error.specs.declared.Outcome.{Outcome}
@@ -83,9 +83,13 @@ refusals =
 abbrev pub refusal_of : ℕ → Refusal
 refusal_of n = get_or refusals (n - 1) refusal.BrokenRecords
 
-abbrev pub outcome_of : (outcome refusal : ℕ) → Outcome
+abbrev pub outcome_of : (outcome refusal : ℕ) → Result Outcome Refusal
 outcome_of n why =
-    cond (eqb n 0) outcome.Ready (cond (eqb n 1) outcome.Waiting (cond (eqb n 2) outcome.Done (cond (eqb n 3) outcome.Nothing (outcome.Refused (refusal_of why)))))
+    cond (eqb n 0) (Ok outcome.Ready) (cond (eqb n 1) (Ok outcome.Waiting) (cond (eqb n 2) (Ok outcome.Done) (cond (eqb n 3) (Ok outcome.Nothing) (Err (refusal_of why)))))
+
+-- a segment size, where 0 says that there is none
+abbrev pub size_of : ℕ → Option ℕ
+size_of n = cond (eqb n 0) None (Some n)
 
 abbrev pub step_of : FlatStep → Step
 step_of r =
@@ -94,7 +98,7 @@ step_of r =
       totals = totals_of r.totals;
       outcome = outcome_of r.outcome r.refusal;
       count = r.count;
-      segment = r.segment;
+      segment = size_of r.segment;
     }
 
 abbrev pub opened_of : FlatStep → Opened

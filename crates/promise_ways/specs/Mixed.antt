@@ -2,9 +2,8 @@
 -- call on the records, LentTotals.antt) and calls from C, in any order, opened in either way. A call from C is handed any numbers that
 -- stand for the records at that moment. Such a list is a list of calls on the records, so their promises hold after it: `SameMixed` and
 -- `TwoEndsMixed`. `Crossing` says that such numbers always exist. Statements only: the proofs are in proofs/Mixed.antt.
-use Rattle.std.specs.Prelude.{ℕ, ◌≡◌, false, List, [], ◌∷◌, ◌⊎◌}
+use Rattle.std.specs.Prelude.{ℕ, ◌≡◌, false, List, [], ◌∷◌, ◌⊎◌, Err}
 use Rattle.error.specs.declared.Refusal.TheVariants.{BrokenRecords}
-use Rattle.error.specs.declared.Outcome.TheVariants.{Refused}
 use Rattle.model.specs.Stream.{End, fresh}
 use Rattle.model.specs.Driving.{look}
 use Rattle.model.specs.Calls.{answer, after}
@@ -73,7 +72,7 @@ pub record SameEitherWay (x : Records) (e : End) : Type 0 where
   -- the next call, made in either way, returns the model's outcome, count, bytes and segment size and leaves the model's end
   pub next : (v : Mixed) → MixedDid x v → answer_of (as_event v) ≡ answer (call_of (as_event v).request) e
   -- 01, refusal 1: "(never so after calls from a fresh stream)"
-  pub unbroken : (v : Mixed) → MixedDid x v → (as_event v).step.outcome ≡ Refused BrokenRecords → ⊥
+  pub unbroken : (v : Mixed) → MixedDid x v → (as_event v).step.outcome ≡ Err BrokenRecords → ⊥
   -- the part that `udx_look` returns on any numbers that stand for the records is within its store and has exactly the bytes that the model
   -- shows
   pub shown : (p : Plain) → StandsFor p x → (part : FlatPart) → Looks p.stream p.totals p.lent part
