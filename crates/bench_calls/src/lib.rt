@@ -3,7 +3,7 @@
 #![tactic(auto)]
 
 use constants::{HELD_WORDS, QUEUE_WORDS, SENT_WORDS};
-use error::{Outcome, UdxError};
+use error::Outcome;
 use records::{
     Clocks, Deadline, Ending, Ids, Queue, Receiver, Sender, Stream, StreamState, Timing, Totals,
 };
@@ -41,42 +41,36 @@ fn queue_numbers(n: &[u64; 24]) -> Queue {
 }
 
 fn timing(n: &[u64; 24]) -> Timing {
-    let rtt = Rtt {
-        srtt: Nanos(n[12]),
-        rttvar: Nanos(n[13]),
-        rto: Nanos(n[14]),
-    };
     Timing {
-        rtt,
+        rtt: Rtt {
+            srtt: Nanos(n[12]),
+            rttvar: Nanos(n[13]),
+            rto: Nanos(n[14]),
+        },
         deadline: Deadline(Nanos(n[15])),
     }
 }
 
 pub fn stream(n: &[u64; 24]) -> Stream {
-    let error = UdxError::None;
-    let state = StreamState::Open;
-    let ending = Ending {
-        error,
-        state,
-        ended: false,
-    };
-    let ids = Ids {
-        local: 1,
-        remote: 1,
-        segments: (n[18] % 256) as u8,
-    };
-    let clocks = Clocks {
-        last: Nanos(n[16]),
-        drive: Nanos(n[17]),
-    };
     Stream {
-        ids,
+        ids: Ids {
+            local: 1,
+            remote: 1,
+            segments: (n[18] % 256) as u8,
+        },
         sender: sender(n),
         receiver: receiver(n),
         queue: queue_numbers(n),
         timing: timing(n),
-        ending,
-        clocks,
+        ending: Ending {
+            error: None,
+            state: StreamState::Open,
+            ended: false,
+        },
+        clocks: Clocks {
+            last: Nanos(n[16]),
+            drive: Nanos(n[17]),
+        },
     }
 }
 
@@ -98,10 +92,7 @@ pub fn udx_bench_rules(
     held: &[u64; HELD_WORDS],
     queue: &[u64; QUEUE_WORDS],
 ) -> u32 {
-    if rules_stream::ok_stream(stream(numbers), totals(numbers), sent, held, queue) {
-        return 1;
-    }
-    0
+    rules_stream::ok_stream(stream(numbers), totals(numbers), sent, held, queue) as u32
 }
 
 // One write: returns the bytes accepted.
@@ -115,10 +106,8 @@ pub fn udx_bench_write(
     headers: &[u8],
     bytes: &[u8],
 ) -> usize {
-    let s = stream(numbers);
-    let t = totals(numbers);
-    let r = udx::write::write(s, t, sent, held, queue, outgoing, incoming, headers, bytes);
-    r.count
+    let (s, t) = (stream(numbers), totals(numbers));
+    udx::write::write(s, t, sent, held, queue, outgoing, incoming, headers, bytes).count
 }
 
 // One take: returns the bytes put.
@@ -132,10 +121,8 @@ pub fn udx_bench_take(
     headers: &[u8],
     buf: &mut [u8],
 ) -> usize {
-    let s = stream(numbers);
-    let t = totals(numbers);
-    let r = udx::take::take(s, t, sent, held, queue, outgoing, incoming, headers, buf);
-    r.count
+    let (s, t) = (stream(numbers), totals(numbers));
+    udx::take::take(s, t, sent, held, queue, outgoing, incoming, headers, buf).count
 }
 
 // One delivery: returns 1 if it is accepted.
@@ -150,8 +137,7 @@ pub fn udx_bench_deliver(
     datagram: &[u8],
     clock: u64,
 ) -> u32 {
-    let s = stream(numbers);
-    let t = totals(numbers);
+    let (s, t) = (stream(numbers), totals(numbers));
     let r = udx::deliver::deliver(
         s,
         t,
@@ -164,14 +150,7 @@ pub fn udx_bench_deliver(
         datagram,
         Nanos(clock),
     );
-    let outcome = r.outcome;
-    match outcome {
-        Outcome::Ready => 1,
-        Outcome::Waiting => 0,
-        Outcome::Done => 0,
-        Outcome::Nothing => 0,
-        Outcome::Refused(why) => 0,
-    }
+    (r.outcome == Ok(Outcome::Ready)) as u32
 }
 
 // One read: returns the bytes put.
@@ -185,10 +164,8 @@ pub fn udx_bench_read(
     headers: &[u8],
     buf: &mut [u8],
 ) -> usize {
-    let s = stream(numbers);
-    let t = totals(numbers);
-    let r = udx::read::read(s, t, sent, held, queue, outgoing, incoming, headers, buf);
-    r.count
+    let (s, t) = (stream(numbers), totals(numbers));
+    udx::read::read(s, t, sent, held, queue, outgoing, incoming, headers, buf).count
 }
 
 // One drive: returns the entries left to take plus remote acked.
@@ -202,8 +179,7 @@ pub fn udx_bench_drive(
     headers: &mut [u8],
     clock: u64,
 ) -> u64 {
-    let s = stream(numbers);
-    let t = totals(numbers);
+    let (s, t) = (stream(numbers), totals(numbers));
     let r = udx::drive::drive(
         s,
         t,
@@ -215,8 +191,5 @@ pub fn udx_bench_drive(
         headers,
         Nanos(clock),
     );
-    let after = r.stream;
-    let left = after.queue.left as u64;
-    let settled = after.sender.remote_acked as u64;
-    left + settled
+    r.stream.queue.left as u64 + r.stream.sender.remote_acked as u64
 }

@@ -1,5 +1,6 @@
 // The path of a packet between two ends, as C functions to be timed: write, drive, take, deliver and read. Each function makes all the
-// calls of its kind in a round, so that little but the calls is timed. `numbers` has the order of bench_calls.
+// calls of its kind in a round, so that little but the calls is timed. `numbers` has the order of bench_calls. What is lent has a parameter
+// for each array, as C lends it.
 #![tactic(auto)]
 
 use bench_calls::{stream, totals};
@@ -9,16 +10,12 @@ use rtt::Nanos;
 use udx_steps::{Step, nothing};
 
 fn unpacked(numbers: &[u64; 24]) -> Step {
-    let stream = stream(numbers);
-    let totals = totals(numbers);
-    nothing(stream, totals)
+    nothing(stream(numbers), totals(numbers))
 }
 
 // The previous step, when there is no call to make.
 fn unchanged(r: Step) -> Step {
-    let s = r.stream;
-    let t = r.totals;
-    nothing(s, t)
+    nothing(r.stream, r.totals)
 }
 
 // Writes the packet of `size` bytes at `at`, if it is whole.
@@ -34,17 +31,20 @@ fn write_one(
     at: usize,
     size: usize,
 ) -> Step {
-    if bytes.len() < size {
+    if bytes.len() < size || bytes.len() - size < at {
         return unchanged(r);
     }
-    if bytes.len() - size < at {
-        return unchanged(r);
-    }
-    let end = at + size;
-    let one = &bytes[at..end];
-    let s = r.stream;
-    let t = r.totals;
-    udx::write::write(s, t, sent, held, queue, outgoing, incoming, headers, one)
+    udx::write::write(
+        r.stream,
+        r.totals,
+        sent,
+        held,
+        queue,
+        outgoing,
+        incoming,
+        headers,
+        &bytes[at..at + size],
+    )
 }
 
 // Writes one packet at a time, until one is not accepted.
@@ -61,20 +61,16 @@ fn write(
 ) -> Step {
     let mut w = r;
     let mut count: usize = 0;
-    let mut n: u32 = 0;
-    while n < 32 {
-        n += 1;
+    for _ in 0..32 {
         w = write_one(
             w, sent, held, queue, outgoing, incoming, headers, bytes, count, size,
         );
         if w.count == 0 {
-            w.count = count;
-            return w;
+            break;
         }
-        count = std::num::wrapping_add_usize(count, w.count);
+        count = count.wrapping_add(w.count);
     }
-    w.count = count;
-    w
+    Step { count, ..w }
 }
 
 fn drive(
@@ -87,10 +83,17 @@ fn drive(
     headers: &mut [u8],
     clock: u64,
 ) -> Step {
-    let s = r.stream;
-    let t = r.totals;
-    let c = Nanos(clock);
-    udx::drive::drive(s, t, sent, held, queue, outgoing, incoming, headers, c)
+    udx::drive::drive(
+        r.stream,
+        r.totals,
+        sent,
+        held,
+        queue,
+        outgoing,
+        incoming,
+        headers,
+        Nanos(clock),
+    )
 }
 
 // Takes the next batch into the buffer at `at`.
@@ -108,17 +111,17 @@ fn take_one(
     if buf.len() < at {
         return unchanged(r);
     }
-    let rest = &mut buf[at..];
-    let s = r.stream;
-    let t = r.totals;
-    udx::take::take(s, t, sent, held, queue, outgoing, incoming, headers, rest)
-}
-
-// No entry is left to take.
-fn all_taken(r: Step) -> bool {
-    let s = r.stream;
-    let q = s.queue;
-    q.left == 0
+    udx::take::take(
+        r.stream,
+        r.totals,
+        sent,
+        held,
+        queue,
+        outgoing,
+        incoming,
+        headers,
+        &mut buf[at..],
+    )
 }
 
 // Takes batches until no entry is left: a queue of 128 entries has 13 batches of ten.
@@ -134,23 +137,19 @@ fn take(
 ) -> Step {
     let mut w = r;
     let mut count: usize = 0;
-    let mut n: u32 = 0;
-    while n < 14 {
-        n += 1;
-        if all_taken(w) {
-            w.count = count;
-            return w;
+    for _ in 0..14 {
+        if w.stream.queue.left == 0 {
+            break;
         }
         w = take_one(
             w, sent, held, queue, outgoing, incoming, headers, buf, count,
         );
-        count = std::num::wrapping_add_usize(count, w.count);
+        count = count.wrapping_add(w.count);
     }
-    w.count = count;
-    w
+    Step { count, ..w }
 }
 
-// Delivers the datagram of `size` bytes at `at`, if it is whole and not lost.
+// Delivers the datagram of `size` bytes at `at`, if it is whole.
 fn deliver_one(
     r: Step,
     sent: &mut [u64; SENT_WORDS],
@@ -162,24 +161,23 @@ fn deliver_one(
     line: &[u8],
     at: usize,
     size: usize,
-    lost: u8,
     clock: u64,
 ) -> Step {
-    if 0 < lost {
+    if line.len() < size || line.len() - size < at {
         return unchanged(r);
     }
-    if line.len() < size {
-        return unchanged(r);
-    }
-    if line.len() - size < at {
-        return unchanged(r);
-    }
-    let end = at + size;
-    let one = &line[at..end];
-    let s = r.stream;
-    let t = r.totals;
-    let c = Nanos(clock);
-    udx::deliver::deliver(s, t, sent, held, queue, outgoing, incoming, headers, one, c)
+    udx::deliver::deliver(
+        r.stream,
+        r.totals,
+        sent,
+        held,
+        queue,
+        outgoing,
+        incoming,
+        headers,
+        &line[at..at + size],
+        Nanos(clock),
+    )
 }
 
 // Delivers the datagrams that are not lost, of 128 at most: `lost` has a byte for each, 0 if it arrives.
@@ -198,17 +196,13 @@ fn deliver(
 ) -> Step {
     let mut w = r;
     let mut at: usize = 0;
-    let mut n: usize = 0;
-    while n < 128 {
-        if lost.len() <= n {
-            return w;
+    for lost in lost.iter().take(128) {
+        if *lost == 0 {
+            w = deliver_one(
+                w, sent, held, queue, outgoing, incoming, headers, line, at, size, clock,
+            );
         }
-        let one = lost[n];
-        n += 1;
-        w = deliver_one(
-            w, sent, held, queue, outgoing, incoming, headers, line, at, size, one, clock,
-        );
-        at = std::num::wrapping_add_usize(at, size);
+        at = at.wrapping_add(size);
     }
     w
 }
@@ -226,17 +220,20 @@ fn read_one(
     at: usize,
     size: usize,
 ) -> Step {
-    if buf.len() < size {
+    if buf.len() < size || buf.len() - size < at {
         return unchanged(r);
     }
-    if buf.len() - size < at {
-        return unchanged(r);
-    }
-    let end = at + size;
-    let part = &mut buf[at..end];
-    let s = r.stream;
-    let t = r.totals;
-    udx::read::read(s, t, sent, held, queue, outgoing, incoming, headers, part)
+    udx::read::read(
+        r.stream,
+        r.totals,
+        sent,
+        held,
+        queue,
+        outgoing,
+        incoming,
+        headers,
+        &mut buf[at..at + size],
+    )
 }
 
 // Reads one packet at a time, until a read puts nothing.
@@ -253,53 +250,37 @@ fn read(
 ) -> Step {
     let mut w = r;
     let mut count: usize = 0;
-    let mut n: u32 = 0;
-    while n < 33 {
-        n += 1;
+    for _ in 0..33 {
         w = read_one(
             w, sent, held, queue, outgoing, incoming, headers, buf, count, size,
         );
         if w.count == 0 {
-            w.count = count;
-            return w;
+            break;
         }
-        count = std::num::wrapping_add_usize(count, w.count);
+        count = count.wrapping_add(w.count);
     }
-    w.count = count;
-    w
+    Step { count, ..w }
 }
 
 fn keep_sender(n: &mut [u64; 24], s: Sender) {
-    let seq = s.seq as u64;
-    let acked = s.remote_acked as u64;
-    let largest = s.largest_ack as u64;
-    let inflight = s.inflight as u64;
-    let cwnd = s.cwnd as u64;
-    n[0] = seq;
-    n[1] = acked;
-    n[2] = largest;
-    n[3] = inflight;
-    n[4] = cwnd;
+    n[0] = s.seq as u64;
+    n[1] = s.remote_acked as u64;
+    n[2] = s.largest_ack as u64;
+    n[3] = s.inflight as u64;
+    n[4] = s.cwnd as u64;
 }
 
 fn keep_receiver(n: &mut [u64; 24], r: Receiver) {
-    let ack = r.ack as u64;
-    let cursor = r.read_cursor as u64;
-    let top = r.top as u64;
-    n[5] = ack;
-    n[6] = cursor;
-    n[7] = top;
+    n[5] = r.ack as u64;
+    n[6] = r.read_cursor as u64;
+    n[7] = r.top as u64;
 }
 
 fn keep_queue(n: &mut [u64; 24], q: Queue) {
-    let count = q.count as u64;
-    let left = q.left as u64;
-    let states = q.states as u64;
-    let gone = q.gone as u64;
-    n[8] = count;
-    n[9] = left;
-    n[10] = states;
-    n[11] = gone;
+    n[8] = q.count as u64;
+    n[9] = q.left as u64;
+    n[10] = q.states as u64;
+    n[11] = q.gone as u64;
 }
 
 fn keep_timing(n: &mut [u64; 24], t: Timing) {
@@ -310,29 +291,19 @@ fn keep_timing(n: &mut [u64; 24], t: Timing) {
 }
 
 fn keep(n: &mut [u64; 24], r: Step) {
-    let s = r.stream;
-    let t = r.totals;
-    let last = s.clocks.last.0;
-    let drive = s.clocks.drive.0;
-    n[16] = last;
-    n[17] = drive;
-    n[19] = t.inflight_packets;
-    n[20] = t.inflight_bytes;
-    keep_sender(n, s.sender);
-    keep_receiver(n, s.receiver);
-    keep_queue(n, s.queue);
-    keep_timing(n, s.timing);
+    n[16] = r.stream.clocks.last.0;
+    n[17] = r.stream.clocks.drive.0;
+    n[19] = r.totals.inflight_packets;
+    n[20] = r.totals.inflight_bytes;
+    keep_sender(n, r.stream.sender);
+    keep_receiver(n, r.stream.receiver);
+    keep_queue(n, r.stream.queue);
+    keep_timing(n, r.stream.timing);
 }
 
 // 1 if the stream has an error.
 fn failed(r: Step) -> u32 {
-    let s = r.stream;
-    let ending = s.ending;
-    let error = ending.error;
-    if records::is_set(error) {
-        return 1;
-    }
-    0
+    r.stream.ending.error.is_some() as u32
 }
 
 // Returns the bytes accepted.

@@ -8,41 +8,83 @@ ghost use Rattle.std.specs.Prelude.{◌+◌, ◌≤◌, length};
 
 use breaking::broken;
 use constants::{HEADER_STORE, INCOMING_STORE, OUTGOING_STORE};
-use error::Outcome;
+use error::{Outcome, Refusal};
 use packet::Header;
 use rtt::Nanos;
-use session_ends::{Called, SessionEnd};
+use session_commands::EndStores;
+use session_ends::SessionEnd;
 
-pub const SPARE_OUTGOING: usize = 44_801;
+pub const SPARE_OUTGOING: usize = OUTGOING_STORE + 1;
 
-pub const SPARE_INCOMING: usize = 44_161;
+pub const SPARE_INCOMING: usize = INCOMING_STORE + 1;
 
-pub const SPARE_HEADERS: usize = 1_281;
+pub const SPARE_HEADERS: usize = HEADER_STORE + 1;
 
-fn outcome_of(c: Called) -> Outcome {
-    let outcome = c.outcome;
-    outcome
+// The spare stores.
+#[derive(Drop)]
+pub struct Spare {
+    pub outgoing: [u8; SPARE_OUTGOING],
+    pub incoming: [u8; SPARE_INCOMING],
+    pub headers: [u8; SPARE_HEADERS],
 }
 
-fn opened(clock: Nanos, outgoing: &[u8], incoming: &[u8], headers: &[u8]) -> Outcome {
-    let o = udx::open::open(1, 2, 10, clock, outgoing, incoming, headers);
-    let outcome = o.outcome;
-    outcome
+impl Spare {
+    #[inline(always)]
+    pub fn fresh() -> Self {
+        Spare {
+            outgoing: [0; SPARE_OUTGOING],
+            incoming: [0; SPARE_INCOMING],
+            headers: [0; SPARE_HEADERS],
+        }
+    }
 }
 
-fn taken(e: SessionEnd, outgoing: &[u8], incoming: &[u8], headers: &[u8]) -> Outcome {
+#[derive(Clone, Copy)]
+enum DrillCall {
+    Open,
+    Write,
+    Drive,
+    Take,
+    Deliver,
+    Read,
+    Close,
+    Look,
+}
+
+// The calls 0 to 7 of docs/DRILL.md; a script has no higher number.
+impl From<u8> for DrillCall {
+    fn from(number: u8) -> Self {
+        match number {
+            0 => DrillCall::Open,
+            1 => DrillCall::Write,
+            2 => DrillCall::Drive,
+            3 => DrillCall::Take,
+            4 => DrillCall::Deliver,
+            5 => DrillCall::Read,
+            6 => DrillCall::Close,
+            _ => DrillCall::Look,
+        }
+    }
+}
+
+fn take(
+    e: SessionEnd,
+    outgoing: &[u8],
+    incoming: &[u8],
+    headers: &[u8],
+) -> Result<Outcome, Refusal> {
     let mut buf = [0u8; 14_000];
-    outcome_of(session_ends::take(e, outgoing, incoming, headers, &mut buf))
+    session_ends::take(e, outgoing, incoming, headers, &mut buf).outcome
 }
 
 // Delivers a datagram that carries nothing: type 0, the end's id, and all else 0.
-fn delivered(
+fn deliver(
     e: SessionEnd,
     clock: Nanos,
     outgoing: &[u8],
     incoming: &mut [u8],
     headers: &mut [u8],
-) -> Outcome {
+) -> Result<Outcome, Refusal> {
     let h = Header {
         typ: 0,
         data_offset: 0,
@@ -51,42 +93,50 @@ fn delivered(
         seq: 0,
         ack: 0,
     };
-    let datagram = h.to_bytes();
-    outcome_of(session_ends::deliver(e, &datagram, clock, outgoing, incoming, headers))
+    session_ends::deliver(e, &h.to_bytes(), clock, outgoing, incoming, headers).outcome
 }
 
-fn was_read(e: SessionEnd, outgoing: &[u8], incoming: &[u8], headers: &[u8]) -> Outcome {
+fn read(
+    e: SessionEnd,
+    outgoing: &[u8],
+    incoming: &[u8],
+    headers: &[u8],
+) -> Result<Outcome, Refusal> {
     let mut buf = [0u8; 16];
-    outcome_of(session_ends::read(e, outgoing, incoming, headers, &mut buf))
+    session_ends::read(e, outgoing, incoming, headers, &mut buf).outcome
 }
 
-fn looked<'a>(e: SessionEnd, outgoing: &'a [u8], incoming: &[u8], headers: &'a [u8]) -> Outcome {
-    let shown = session_ends::look(e, outgoing, incoming, headers);
-    if shown.len() == 0 {
-        Outcome::Nothing
+fn look(
+    e: SessionEnd,
+    outgoing: &[u8],
+    incoming: &[u8],
+    headers: &[u8],
+) -> Result<Outcome, Refusal> {
+    if session_ends::look(e, outgoing, incoming, headers).is_empty() {
+        Ok(Outcome::Nothing)
     } else {
-        Outcome::Ready
+        Ok(Outcome::Ready)
     }
 }
 
-// Makes one of the calls 0 to 7 (docs/DRILL.md).
-fn call(
+// Three slices, here and in `make_broken`: the borrow check does not cover slices of three fields behind one reference to a struct.
+fn make(
+    call: DrillCall,
     e: SessionEnd,
-    which: u8,
     clock: Nanos,
     outgoing: &mut [u8],
     incoming: &mut [u8],
     headers: &mut [u8],
-) -> Outcome {
-    match which {
-        0 => opened(clock, outgoing, incoming, headers),
-        1 => outcome_of(session_ends::write(e, b"Z", outgoing, incoming, headers)),
-        2 => outcome_of(session_ends::drive(e, clock, outgoing, incoming, headers)),
-        3 => taken(e, outgoing, incoming, headers),
-        4 => delivered(e, clock, outgoing, incoming, headers),
-        5 => was_read(e, outgoing, incoming, headers),
-        6 => outcome_of(session_ends::close(e, outgoing, incoming, headers)),
-        7..=255 => looked(e, outgoing, incoming, headers),
+) -> Result<Outcome, Refusal> {
+    match call {
+        DrillCall::Open => udx::open::open(1, 2, 10, clock, outgoing, incoming, headers).outcome,
+        DrillCall::Write => session_ends::write(e, b"Z", outgoing, incoming, headers).outcome,
+        DrillCall::Drive => session_ends::drive(e, clock, outgoing, incoming, headers).outcome,
+        DrillCall::Take => take(e, outgoing, incoming, headers),
+        DrillCall::Deliver => deliver(e, clock, outgoing, incoming, headers),
+        DrillCall::Read => read(e, outgoing, incoming, headers),
+        DrillCall::Close => session_ends::close(e, outgoing, incoming, headers).outcome,
+        DrillCall::Look => look(e, outgoing, incoming, headers),
     }
 }
 
@@ -105,35 +155,27 @@ fn spoilt(which: u8, short: u8, long: u8, size: usize) -> usize
     size
 }
 
-// Breaks thing `which` and makes the call.
-fn call_over(
+// Breaks thing `which` and makes the call, lent as much of each spare store as `which` says.
+fn make_broken(
+    call: DrillCall,
     e: SessionEnd,
     which: u8,
-    number: u8,
     clock: Nanos,
-    outgoing: &mut [u8],
-    incoming: &mut [u8],
-    headers: &mut [u8],
-) -> Outcome
-    requires { (44_801 ≤ length outgoing.old) × (44_161 ≤ length incoming.old) × (1_281 ≤ length headers.old) }
-{
+    outgoing: &mut [u8; SPARE_OUTGOING],
+    incoming: &mut [u8; SPARE_INCOMING],
+    headers: &mut [u8; SPARE_HEADERS],
+) -> Result<Outcome, Refusal> {
     let o = spoilt(which, 1, 2, OUTGOING_STORE);
     let i = spoilt(which, 3, 4, INCOMING_STORE);
     let h = spoilt(which, 5, 6, HEADER_STORE);
-    call(
+    make(
+        call,
         broken(e, which),
-        number,
         clock,
-        &mut outgoing[0..o],
-        &mut incoming[0..i],
-        &mut headers[0..h],
+        &mut outgoing[..o],
+        &mut incoming[..i],
+        &mut headers[..h],
     )
-}
-
-fn copy_store(store: &[u8], spare: &mut [u8]) {
-    if store.len() <= spare.len() {
-        spare[0..store.len()].copy_from_slice(store);
-    }
 }
 
 // Makes call `number` with thing `which` broken.
@@ -142,23 +184,19 @@ pub fn spoil(
     which: u8,
     number: u8,
     clock: Nanos,
-    outgoing: &[u8; OUTGOING_STORE],
-    incoming: &[u8; INCOMING_STORE],
-    headers: &[u8; HEADER_STORE],
-    spare_outgoing: &mut [u8; SPARE_OUTGOING],
-    spare_incoming: &mut [u8; SPARE_INCOMING],
-    spare_headers: &mut [u8; SPARE_HEADERS],
-) -> Outcome {
-    copy_store(outgoing, spare_outgoing);
-    copy_store(incoming, spare_incoming);
-    copy_store(headers, spare_headers);
-    call_over(
+    stores: &EndStores,
+    spare: &mut Spare,
+) -> Result<Outcome, Refusal> {
+    spare.outgoing[..OUTGOING_STORE].copy_from_slice(&stores.outgoing);
+    spare.incoming[..INCOMING_STORE].copy_from_slice(&stores.incoming);
+    spare.headers[..HEADER_STORE].copy_from_slice(&stores.headers);
+    make_broken(
+        DrillCall::from(number),
         e,
         which,
-        number,
         clock,
-        spare_outgoing,
-        spare_incoming,
-        spare_headers,
+        &mut spare.outgoing,
+        &mut spare.incoming,
+        &mut spare.headers,
     )
 }

@@ -3,7 +3,7 @@
 
 ghost use Rattle.std.specs.Prelude.{◌+◌, ◌*◌, ◌≤◌, length};
 
-use error::Outcome;
+use error::{Outcome, Refusal};
 use packet::Header;
 use session_text::LINE;
 
@@ -20,21 +20,29 @@ pub enum DrillName {
     Spoil,
 }
 
+impl DrillName {
+    fn word(self) -> &'static [u8]
+        ensures { length result.now ≤ 7 }
+    {
+        match self {
+            DrillName::Raw => b"raw",
+            DrillName::Base => b"base",
+            DrillName::Open => b"open",
+            DrillName::Room => b"room",
+            DrillName::Look => b"look",
+            DrillName::Numbers => b"numbers",
+            DrillName::Encode => b"encode",
+            DrillName::Decode => b"decode",
+            DrillName::Spoil => b"spoil",
+        }
+    }
+}
+
 fn put_name(out: &mut [u8], name: DrillName) -> usize
     requires { 7 ≤ length out.old }
     ensures { result ≤ 7 }
 {
-    match name {
-        DrillName::Raw => session_text::put_word(out, 0, b"raw"),
-        DrillName::Base => session_text::put_word(out, 0, b"base"),
-        DrillName::Open => session_text::put_word(out, 0, b"open"),
-        DrillName::Room => session_text::put_word(out, 0, b"room"),
-        DrillName::Look => session_text::put_word(out, 0, b"look"),
-        DrillName::Numbers => session_text::put_word(out, 0, b"numbers"),
-        DrillName::Encode => session_text::put_word(out, 0, b"encode"),
-        DrillName::Decode => session_text::put_word(out, 0, b"decode"),
-        DrillName::Spoil => session_text::put_word(out, 0, b"spoil"),
-    }
+    session_text::put_word(out, 0, name.word())
 }
 
 // A number after a space.
@@ -52,10 +60,8 @@ fn put_numbers(out: &mut [u8], at: usize, numbers: &[u64]) -> usize
     ensures { result ≤ at + 21 * length numbers.now }
 {
     let mut to = at;
-    let mut i: usize = 0;
-    while i < numbers.len() {
-        to = put_number(out, to, numbers[i]);
-        i += 1;
+    for &n in numbers {
+        to = put_number(out, to, n);
     }
     to
 }
@@ -71,7 +77,12 @@ fn put_last_bytes(out: &mut [u8], at: usize, bytes: &[u8]) -> usize
 }
 
 // `NAME END OUTCOME 0`
-pub fn put_line(out: &mut [u8; LINE], name: DrillName, end: u8, outcome: Outcome) -> usize
+pub fn put_line(
+    out: &mut [u8; LINE],
+    name: DrillName,
+    end: u8,
+    outcome: Result<Outcome, Refusal>,
+) -> usize
     ensures { result ≤ 8_400 }
 {
     let a = put_name(out, name);
@@ -79,20 +90,20 @@ pub fn put_line(out: &mut [u8; LINE], name: DrillName, end: u8, outcome: Outcome
     session_text::put_end(out, b)
 }
 
-// `room END OUTCOME COUNT SEGMENT SUM`
+// `room END OUTCOME COUNT SEGMENT SUM`; SEGMENT is 0 if the batch has no segment size.
 pub fn put_room(
     out: &mut [u8; LINE],
     end: u8,
-    outcome: Outcome,
+    outcome: Result<Outcome, Refusal>,
     count: u64,
-    segment: u64,
+    segment: Option<usize>,
     sum: u64,
 ) -> usize
     ensures { result ≤ 8_400 }
 {
     let a = put_name(out, DrillName::Room);
     let b = session_text::put_answer(out, a, end, outcome, count);
-    let c = put_numbers(out, b, &[segment, sum]);
+    let c = put_numbers(out, b, &[segment.unwrap_or(0) as u64, sum]);
     session_text::put_end(out, c)
 }
 
@@ -102,7 +113,7 @@ pub fn put_look(out: &mut [u8; LINE], end: u8, shown: &[u8]) -> usize
     ensures { result ≤ 8_400 }
 {
     let a = put_name(out, DrillName::Look);
-    let b = session_text::put_answer(out, a, end, Outcome::Ready, shown.len() as u64);
+    let b = session_text::put_answer(out, a, end, Ok(Outcome::Ready), shown.len() as u64);
     put_last_bytes(out, b, shown)
 }
 
@@ -117,7 +128,7 @@ pub fn put_all_numbers(out: &mut [u8; LINE], end: u8, numbers: &[u64; 22]) -> us
 }
 
 // `encode OUTCOME COUNT BYTES`
-pub fn put_encoded(out: &mut [u8; LINE], outcome: Outcome, bytes: &[u8]) -> usize
+pub fn put_encoded(out: &mut [u8; LINE], outcome: Result<Outcome, Refusal>, bytes: &[u8]) -> usize
     requires { length bytes.now ≤ 64 }
     ensures { result ≤ 8_400 }
 {
@@ -128,7 +139,7 @@ pub fn put_encoded(out: &mut [u8; LINE], outcome: Outcome, bytes: &[u8]) -> usiz
     put_last_bytes(out, d, bytes)
 }
 
-fn put_decode_head(out: &mut [u8; LINE], outcome: Outcome) -> usize
+fn put_decode_head(out: &mut [u8; LINE], outcome: Result<Outcome, Refusal>) -> usize
     ensures { result ≤ 100 }
 {
     let a = put_name(out, DrillName::Decode);
@@ -148,15 +159,15 @@ pub fn put_decoded(out: &mut [u8; LINE], h: Header) -> usize
         h.seq as u64,
         h.ack as u64,
     ];
-    let a = put_decode_head(out, Outcome::Ready);
+    let a = put_decode_head(out, Ok(Outcome::Ready));
     let b = put_numbers(out, a, &fields);
     session_text::put_end(out, b)
 }
 
 // `decode 7`
-pub fn put_not_decoded(out: &mut [u8; LINE], outcome: Outcome) -> usize
+pub fn put_not_decoded(out: &mut [u8; LINE], why: Refusal) -> usize
     ensures { result ≤ 8_400 }
 {
-    let a = put_decode_head(out, outcome);
+    let a = put_decode_head(out, Err(why));
     session_text::put_end(out, a)
 }

@@ -1,36 +1,29 @@
 // Reads the next script of the file.
+use crate::comparing::Kind;
 use program_io::read_full;
 use std::io;
 use std::io::Read;
 
-// The script's kind, its length and its answer's length; or why there is none.
+// A script's kind, its length and its answer's length.
 #[derive(Clone, Copy)]
-pub enum NextScript {
-    Script {
-        kind: u8,
-        script: usize,
-        answer: usize,
-    },
-    NoMore,
-    Broken,
+pub struct NextScript {
+    pub kind: Kind,
+    pub script: usize,
+    pub answer: usize,
+}
+
+// Why there is no next script.
+#[derive(Clone, Copy)]
+pub enum NoScript {
+    // All were read, or a million were.
+    End,
+    // The file ends in the middle of a script.
+    Cut,
 }
 
 fn read_part<R: Read>(from: &mut R, buf: &mut [u8], n: usize) -> io::Result<bool> {
     if n <= buf.len() {
-        return Ok(read_full(from, &mut buf[0..n])? == n);
-    }
-    Ok(false)
-}
-
-fn read_both<R: Read>(
-    from: &mut R,
-    script: &mut [u8],
-    n: usize,
-    answer: &mut [u8],
-    m: usize,
-) -> io::Result<bool> {
-    if read_part(from, script, n)? {
-        return read_part(from, answer, m);
+        return Ok(read_full(from, &mut buf[..n])? == n);
     }
     Ok(false)
 }
@@ -40,24 +33,22 @@ pub fn read_next<R: Read>(
     from: &mut R,
     script: &mut [u8],
     answer: &mut [u8],
-) -> io::Result<NextScript> {
+) -> io::Result<Result<NextScript, NoScript>> {
     let mut head = [0u8; 9];
     let got = read_full(from, &mut head)?;
     if got == 0 {
-        return Ok(NextScript::NoMore);
+        return Ok(Err(NoScript::End));
     }
     if got != 9 {
-        return Ok(NextScript::Broken);
+        return Ok(Err(NoScript::Cut));
     }
-    let kind = head[0];
-    let n = session_script::u32_at(&head, 1) as usize;
-    let m = session_script::u32_at(&head, 5) as usize;
-    if read_both(from, script, n, answer, m)? {
-        return Ok(NextScript::Script {
-            kind,
-            script: n,
-            answer: m,
-        });
+    let next = NextScript {
+        kind: Kind::from(head[0]),
+        script: session_script::u32_at(&head, 1) as usize,
+        answer: session_script::u32_at(&head, 5) as usize,
+    };
+    if read_part(from, script, next.script)? && read_part(from, answer, next.answer)? {
+        return Ok(Ok(next));
     }
-    Ok(NextScript::Broken)
+    Ok(Err(NoScript::Cut))
 }

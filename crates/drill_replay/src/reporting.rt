@@ -1,5 +1,6 @@
 // What the run prints.
-use crate::comparing::{Compared, front};
+use crate::comparing::Difference;
+use crate::reading::NoScript;
 use std::io;
 use std::io::Write;
 
@@ -7,59 +8,35 @@ use std::io::Write;
 pub struct Tally {
     pub same: u64,
     pub differ: u64,
-    // No script is left.
-    pub ended: bool,
-    // The file ends in the middle of a script.
-    pub broken: bool,
-}
-
-pub fn start() -> Tally {
-    Tally {
-        same: 0,
-        differ: 0,
-        ended: false,
-        broken: false,
-    }
-}
-
-fn print<W: Write>(out: &mut W, text: &[u8]) -> io::Result<()> {
-    out.write_all(text)
-}
-
-fn print_number<W: Write>(out: &mut W, n: u64) -> io::Result<()> {
-    write!(out, "{n}")
 }
 
 // The line that starts at `at`, without its newline; empty if it has none.
 fn line_at(answer: &[u8], at: usize) -> &[u8] {
-    let mut end = at;
-    while end < answer.len() {
-        if answer[end] == b'\n' {
-            return &answer[at..end];
-        }
-        end += 1;
+    if answer.len() < at {
+        return &[];
     }
-    &answer[0..0]
+    let rest = &answer[at..];
+    match rest.iter().position(|b| *b == b'\n') {
+        Some(n) => &rest[..n],
+        None => &[],
+    }
 }
 
 // Prints the first difference: its script and line, both counted from 1, and the line recorded and put.
 fn print_difference<W: Write>(
     out: &mut W,
-    number: u64,
-    c: Compared,
+    script: u64,
+    d: Difference,
     answer: &[u8],
     line: &[u8],
 ) -> io::Result<()> {
-    print(out, b"script ")?;
-    print_number(out, number)?;
-    print(out, b", line ")?;
-    print_number(out, std::num::wrapping_add_u64(c.lines, 1))?;
-    print(out, b"\n  recorded: ")?;
-    print(out, line_at(answer, c.at))?;
-    print(out, b"\n  put:      ")?;
-    print(out, front(line, c.len))?;
-    if c.len == 0 {
-        print(out, b"\n")?;
+    let number = d.lines.wrapping_add(1);
+    write!(out, "script {script}, line {number}\n  recorded: ")?;
+    out.write_all(line_at(answer, d.at))?;
+    out.write_all(b"\n  put:      ")?;
+    out.write_all(front(line, d.len))?;
+    if d.len == 0 {
+        out.write_all(b"\n")?;
     }
     Ok(())
 }
@@ -68,49 +45,38 @@ fn print_difference<W: Write>(
 pub fn report<W: Write>(
     out: &mut W,
     t: Tally,
-    c: Compared,
+    found: Option<Difference>,
     answer: &[u8],
-    m: usize,
     line: &[u8],
 ) -> io::Result<Tally> {
-    if c.same {
-        return Ok(Tally {
-            same: std::num::wrapping_add_u64(t.same, 1),
-            differ: t.differ,
-            ended: t.ended,
-            broken: t.broken,
-        });
-    }
-    if t.differ == 0 {
-        let number = std::num::wrapping_add_u64(t.same, 1);
-        print_difference(out, number, c, front(answer, m), line)?;
-    }
-    Ok(Tally {
-        same: t.same,
-        differ: std::num::wrapping_add_u64(t.differ, 1),
-        ended: t.ended,
-        broken: t.broken,
-    })
-}
-
-// The tally at the end of the file.
-pub fn ended(t: Tally, broken: bool) -> Tally {
-    Tally {
-        same: t.same,
-        differ: t.differ,
-        ended: true,
-        broken,
+    match found {
+        None => Ok(Tally {
+            same: t.same.wrapping_add(1),
+            ..t
+        }),
+        Some(d) => {
+            if t.differ == 0 {
+                print_difference(out, t.same.wrapping_add(1), d, answer, line)?;
+            }
+            Ok(Tally {
+                differ: t.differ.wrapping_add(1),
+                ..t
+            })
+        }
     }
 }
 
 // `N same, M differ`
-pub fn summary<W: Write>(out: &mut W, t: Tally) -> io::Result<()> {
-    print_number(out, t.same)?;
-    print(out, b" same, ")?;
-    print_number(out, t.differ)?;
-    print(out, b" differ\n")?;
-    if t.broken {
-        print(out, b"the file ends in the middle of a script\n")?;
+pub fn summary<W: Write>(out: &mut W, t: Tally, last: NoScript) -> io::Result<()> {
+    let Tally { same, differ } = t;
+    write!(out, "{same} same, {differ} differ\n")?;
+    match last {
+        NoScript::End => Ok(()),
+        NoScript::Cut => out.write_all(b"the file ends in the middle of a script\n"),
     }
-    Ok(())
+}
+
+// The first n bytes, or all of them if there are fewer.
+pub fn front(bytes: &[u8], n: usize) -> &[u8] {
+    &bytes[..n.min(bytes.len())]
 }

@@ -1,7 +1,7 @@
 // Parses the drill's commands.
 #![tactic(auto)]
 
-ghost use Rattle.std.specs.Prelude.{◌<◌, ◌≤◌, length};
+ghost use Rattle.std.specs.Prelude.{◌<◌, ◌≤◌, length, IfSome};
 
 use packet::Header;
 use rtt::Nanos;
@@ -57,6 +57,7 @@ pub struct Spoil {
     pub clock: Nanos,
 }
 
+// A command of the drill. Its end, 0 or 1, stays a number: lines print it.
 #[derive(Clone, Copy)]
 pub enum Drill {
     Raw(Raw),
@@ -68,175 +69,116 @@ pub enum Drill {
     Encode(Encode),
     Decode { length: u8 },
     Spoil(Spoil),
-    // Ends the run.
-    Bad,
-    // A session command, or not a command at all: the session decides.
-    Session,
 }
 
-// A command's fixed length, without the bytes it counts itself; 0 if it is not a drill command.
-fn fixed_size(command: u8) -> usize
-    ensures { result ≤ 20 }
-{
-    match command {
-        0..=15 => 0,
-        16 => 12,
-        17 => 14,
-        18 => 19,
-        19 => 4,
-        20 => 2,
-        21 => 2,
-        22 => 20,
-        23 => 2,
-        24 => 12,
-        25..=255 => 0,
-    }
-}
-
-// How many bytes follow the fixed ones: the command's own count.
-fn more(s: &[u8]) -> usize
-    ensures { result ≤ 65_535 }
-{
-    match byte_at(s, 0) {
-        16 => u16_at(s, 10) as usize,
-        23 => byte_at(s, 1) as usize,
-        _ => 0,
-    }
-}
-
-// The header operand of an encode.
-fn read_header(s: &[u8]) -> Header {
-    Header {
-        typ: byte_at(s, 2),
-        data_offset: byte_at(s, 3),
-        stream_id: u32_at(s, 4),
-        recv_win: u32_at(s, 8),
-        seq: u32_at(s, 12),
-        ack: u32_at(s, 16),
-    }
-}
-
-fn read_raw(s: &[u8], end: u8) -> Raw {
-    Raw {
-        end,
-        clock: Nanos(u64_at(s, 2)),
-        length: u16_at(s, 10),
-    }
-}
-
-fn read_open(s: &[u8], end: u8) -> Open {
-    Open {
-        end,
-        local: u32_at(s, 2),
-        remote: u32_at(s, 6),
-        ceiling: byte_at(s, 10),
-        clock: Nanos(u64_at(s, 11)),
-    }
-}
-
-fn read_base(s: &[u8], end: u8) -> Base {
-    Base {
-        end,
-        seq: u32_at(s, 2),
-        ack: u32_at(s, 6),
-        window: u32_at(s, 10),
-    }
-}
-
-fn read_room(s: &[u8], end: u8) -> Room {
-    Room {
-        end,
-        length: u16_at(s, 2),
-    }
-}
-
-fn read_encode(s: &[u8], length: u8) -> Encode {
-    Encode {
-        length,
-        header: read_header(s),
-    }
-}
-
-fn read_spoil(s: &[u8], end: u8) -> Spoil {
-    Spoil {
-        end,
-        which: byte_at(s, 2),
-        call: byte_at(s, 3),
-        clock: Nanos(u64_at(s, 4)),
-    }
-}
-
-// The command at the front of s, which is long enough for its operands.
-fn operands(s: &[u8]) -> Drill {
+// The drill's command at the front of what is left of a script, with a missing byte read as 0; none where the session decides: on its own
+// commands, and on what is no command at all.
+pub fn parse(s: &[u8]) -> Option<Drill> {
     let end = byte_at(s, 1);
-    match byte_at(s, 0) {
-        16 => Drill::Raw(read_raw(s, end)),
-        17 => Drill::Base(read_base(s, end)),
-        18 => Drill::Open(read_open(s, end)),
-        19 => Drill::Room(read_room(s, end)),
+    let drill = match byte_at(s, 0) {
+        16 => Drill::Raw(Raw {
+            end,
+            clock: Nanos(u64_at(s, 2)),
+            length: u16_at(s, 10),
+        }),
+        17 => Drill::Base(Base {
+            end,
+            seq: u32_at(s, 2),
+            ack: u32_at(s, 6),
+            window: u32_at(s, 10),
+        }),
+        18 => Drill::Open(Open {
+            end,
+            local: u32_at(s, 2),
+            remote: u32_at(s, 6),
+            ceiling: byte_at(s, 10),
+            clock: Nanos(u64_at(s, 11)),
+        }),
+        19 => Drill::Room(Room {
+            end,
+            length: u16_at(s, 2),
+        }),
         20 => Drill::Look { end },
         21 => Drill::Numbers { end },
-        22 => Drill::Encode(read_encode(s, end)),
-        23 => Drill::Decode { length: end },
-        24 => Drill::Spoil(read_spoil(s, end)),
-        _ => Drill::Session,
+        22 => Drill::Encode(Encode {
+            length: byte_at(s, 1),
+            header: Header {
+                typ: byte_at(s, 2),
+                data_offset: byte_at(s, 3),
+                stream_id: u32_at(s, 4),
+                recv_win: u32_at(s, 8),
+                seq: u32_at(s, 12),
+                ack: u32_at(s, 16),
+            },
+        }),
+        23 => Drill::Decode {
+            length: byte_at(s, 1),
+        },
+        24 => Drill::Spoil(Spoil {
+            end,
+            which: byte_at(s, 2),
+            call: byte_at(s, 3),
+            clock: Nanos(u64_at(s, 4)),
+        }),
+        _ => return None,
+    };
+    Some(drill)
+}
+
+impl Drill {
+    // The end that runs it, or 0 where any would do.
+    pub fn end(self) -> u8 {
+        match self {
+            Drill::Raw(r) => r.end,
+            Drill::Base(b) => b.end,
+            Drill::Open(o) => o.end,
+            Drill::Room(r) => r.end,
+            Drill::Look { end } | Drill::Numbers { end } => end,
+            Drill::Encode(_) | Drill::Decode { .. } => 0,
+            Drill::Spoil(s) => s.end,
+        }
     }
-}
 
-// Whether the operands are in range.
-fn in_range(drill: Drill) -> bool {
-    match drill {
-        Drill::Raw(r) => r.end <= 1,
-        Drill::Base(b) => b.end <= 1,
-        Drill::Open(o) => o.end <= 1,
-        Drill::Room(r) => both(r.end <= 1, r.length <= 14_000),
-        Drill::Look { end } => end <= 1,
-        Drill::Numbers { end } => end <= 1,
-        Drill::Encode(e) => e.length <= 64,
-        Drill::Decode { length: size } => size <= 64,
-        Drill::Spoil(s) => both(s.end <= 1, both(s.which <= 24, s.call <= 7)),
-        Drill::Bad => false,
-        Drill::Session => true,
-    }
-}
-
-fn both(a: bool, b: bool) -> bool {
-    if a { b } else { false }
-}
-
-// A command and how many bytes of the script it takes: all that are left if it ends the run, and 1 if it is a session command, which the
-// session parses.
-#[derive(Clone, Copy)]
-pub struct ParsedDrill {
-    pub drill: Drill,
-    pub size: usize,
-}
-
-// Parses the command at the front of what is left of a script.
-pub fn parse(s: &[u8]) -> ParsedDrill
-    requires { 0 < length s.now }
-    ensures { (0 < result.size) × (result.size ≤ length s.now) }
-{
-    let fixed = fixed_size(byte_at(s, 0));
-    if fixed == 0 {
-        return ParsedDrill {
-            drill: Drill::Session,
-            size: 1,
+    // Whether the operands are in range.
+    fn in_range(self) -> bool {
+        let operands = match self {
+            Drill::Room(r) => r.length <= 14_000,
+            Drill::Encode(e) => e.length <= 64,
+            Drill::Decode { length } => length <= 64,
+            Drill::Spoil(s) => s.which <= 24 && s.call <= 7,
+            Drill::Raw(_)
+            | Drill::Base(_)
+            | Drill::Open(_)
+            | Drill::Look { .. }
+            | Drill::Numbers { .. } => true,
         };
+        operands && self.end() <= 1
     }
-    let size = fixed + more(s);
-    if s.len() < size {
-        return ParsedDrill {
-            drill: Drill::Bad,
-            size: s.len(),
-        };
+
+    // How many bytes it has, with those that it counts itself.
+    fn size(self) -> usize
+        ensures { 0 < result }
+    {
+        match self {
+            Drill::Raw(r) => 12 + r.length as usize,
+            Drill::Base(_) => 14,
+            Drill::Open(_) => 19,
+            Drill::Room(_) => 4,
+            Drill::Look { .. } | Drill::Numbers { .. } => 2,
+            Drill::Encode(_) => 20,
+            Drill::Decode { length } => 2 + length as usize,
+            Drill::Spoil(_) => 12,
+        }
     }
-    let drill = operands(s);
-    if in_range(drill) {
-        return ParsedDrill { drill, size };
-    }
-    ParsedDrill {
-        drill: Drill::Bad,
-        size: s.len(),
+
+    // How many bytes it takes of the script that it is at the front of; none ends the run, as does a short operand or one out of range.
+    pub fn size_in(self, s: &[u8]) -> Option<usize>
+        ensures { IfSome result (λ n. (0 < n) × (n ≤ length s.now)) }
+    {
+        let size = self.size();
+        if size <= s.len() && self.in_range() {
+            return Some(size);
+        }
+        None
     }
 }

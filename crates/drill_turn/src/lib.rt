@@ -5,5 +5,5 @@ mod acts;
 mod numbers;
 mod running;
 
-pub use drill_broken::{SPARE_HEADERS, SPARE_INCOMING, SPARE_OUTGOING};
+pub use drill_broken::Spare;
 pub use running::run_one;

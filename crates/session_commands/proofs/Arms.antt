@@ -1,7 +1,7 @@
 -- What the session says of a command, by its kind: each law reduces it to what that arm of `act` shows.
 use Prim.Native.Nat.{ℕ, ◌≤◌, ◌<◌}
-use mathlib.Core.Path.{◌≡◌, refl, sym, ap, ◌∙◌, subst}
-use mathlib.Core.Bool.{Bool, true}
+use mathlib.Core.Path.{◌≡◌, sym, ap, ◌∙◌}
+use mathlib.Core.Bool.{true}
 use mathlib.Core.List.{List, []}
 use lib.Dec.{ltb, leb}
 use lib.ListN.{length, get_or, replicate}
@@ -17,7 +17,7 @@ use Rattle.session_script.specs.declared.Command.{Command}
 use Rattle.session_script.specs.declared.Command.TheVariants as command
 use Rattle.session_text.specs.declared.lines.Name.TheVariants as name
 use Rattle.session_commands.specs.Acting.{KeptEnd, lined, lined_read, kept_after, acted, has_datagram, short_read}
-use Rattle.session_commands.specs.Acts.{side_of, LaidEnd, Acts}
+use Rattle.session_commands.specs.Acts.{Acts}
 
 -- `s` is what was seen of the end before the command; the end, its stores and the line are as after it
 module _ (k : Command) (s : KeptEnd) (theirs : List Bytes) (e : SessionEnd) (b : Stores) (kept : Bytes) (len : ℕ) (text : Bytes) where
@@ -57,9 +57,3 @@ module _ (k : Command) (s : KeptEnd) (theirs : List Bytes) (e : SessionEnd) (b :
       → Acts (acted k s theirs) e b kept len text
   unfolding acted
   as_close number is a = rw is a
-
--- nothing is done, and the line is empty
-pub as_bad : (k : Command) (theirs : List Bytes) (e : SessionEnd) (b : Stores) (kept text : Bytes) → k ≡ command.Bad → LaidEnd e b
-    → Acts (acted k (side_of e b kept) theirs) e b kept 0 text
-unfolding acted
-as_bad k theirs e b kept text is laid = rw is (record { side = refl; line = refl; laid = laid })

@@ -46,7 +46,6 @@ acted (command.Hand number which clock) s theirs =
     lined name.Hand number (model_in.deliver (get_or theirs which []) clock.0 s.end) s.kept
 acted (command.Read number size) s theirs = lined_read number (model_in.read size s.end) s.kept
 acted (command.Close number) s theirs = lined name.Close number (model.close s.end) s.kept
-acted command.Bad s theirs = record { side = s; line = [] }
 
 -- "or a datagram not kept": a hand needs one of the other end's
 abbrev pub has_datagram : Command → List Bytes → Bool
@@ -56,7 +55,6 @@ has_datagram (command.Take number) theirs = true
 has_datagram (command.Hand number which clock) theirs = ltb which (length theirs)
 has_datagram (command.Read number size) theirs = true
 has_datagram (command.Close number) theirs = true
-has_datagram command.Bad theirs = true
 
 -- a read of at most 4,096 bytes, as every read of a script is: a longer one ends the run when it is parsed
 abbrev pub short_read : Command → Bool
@@ -66,4 +64,3 @@ short_read (command.Take number) = true
 short_read (command.Hand number which clock) = true
 short_read (command.Read number size) = leb size 4_096
 short_read (command.Close number) = true
-short_read command.Bad = true

@@ -1,6 +1,7 @@
 -- A call on an end is the call of crate `udx` on the end's records: its numbers, its words, and the stores lent with it. No call changes
 -- its kept datagrams.
-use Rattle.std.specs.Prelude.{ℕ, ◌≡◌, List, [], replicate}
+use Rattle.error.specs.declared.Refusal.{Refusal}
+use Rattle.std.specs.Prelude.{ℕ, ◌≡◌, List, [], replicate, Result}
 use Rattle.error.specs.declared.Outcome.{Outcome}
 use Rattle.model.specs.Lists.{Bytes}
 use Rattle.model.specs.Stream as model
@@ -61,7 +62,7 @@ pub record CallsRead (e : SessionEnd) (b : Stores) (buf : Bytes) (r : Called) (b
 -- 01, 'The session program': "opened at clock 0 with ceiling 10". Its stream and totals are those that such an open hands out, its words
 -- are zeros, and it has no kept datagrams.
 pub record Fresh (local remote : ℕ) (b : Stores) (r : SessionEnd) : Type 0 where
-  pub outcome : Outcome
+  pub outcome : Result Outcome Refusal
   pub opens : Opens local remote 10 0 b.outgoing b.incoming b.headers (record { outcome = outcome; stream = r.stream; totals = r.totals })
   pub sent : r.sent ≡ replicate 64 0
   pub held : r.held ≡ replicate 32 0

@@ -32,16 +32,13 @@ pub fn fresh_end(
     ensures { Fresh local remote (stores outgoing.now incoming.now headers.now)
         result }
 {
-    let o = udx::open::open(local, remote, 10, Nanos(0), outgoing, incoming, headers);
-    let stream = o.stream;
-    let totals = o.totals;
-    let kept = session_kept::no_datagrams();
+    let opened = udx::open::open(local, remote, 10, Nanos(0), outgoing, incoming, headers);
     SessionEnd {
-        stream,
-        totals,
+        stream: opened.stream,
+        totals: opened.totals,
         sent: [0; SENT_WORDS],
         held: [0; HELD_WORDS],
         queue: [0; QUEUE_WORDS],
-        kept,
+        kept: session_kept::no_datagrams(),
     }
 }

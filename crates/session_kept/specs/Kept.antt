@@ -1,9 +1,9 @@
 -- An end's kept datagrams, "the other end's last 32 taken" (01, 04 hand), in the slots of a lent store. Every record and store has a
 -- meaning: a count above 32 is 32, and slot numbers wrap around.
-use Rattle.std.specs.Prelude.{ℕ, ◌+◌, ◌-◌, ◌*◌, ◌%◌, ◌≤◌, ◌<◌, min, ◌≡◌, ◌≢◌, List, ◌∷◌, cond, eqb, length, take, drop, get_or}
+use Rattle.std.specs.Prelude as rust
+use Rattle.std.specs.Prelude.{ℕ, ◌+◌, ◌-◌, ◌*◌, ◌%◌, ◌≤◌, ◌<◌, min, max, ◌≡◌, ◌≢◌, List, None, Some, length, take, drop, get_or}
 use Rattle.std.proofs.Math.Option.{Option, none, some}
 use Rattle.model.specs.Lists.{Bytes}
-use Rattle.model.specs.Driving.{datagrams_of}
 use Rattle.records.specs.Table.{table}
 use Rattle.session_kept.specs.declared.Kept.{Kept}
 
@@ -35,18 +35,12 @@ last_kept ds = drop (length ds - 32) ds
 unfoldable pub fitted : Bytes → Bytes
 fitted d = take slot_size d
 
--- a take's segment size, 0 "where it has none"
-abbrev pub segment_of : ℕ → Option ℕ
-segment_of n = cond (eqb n 0) none (some n)
+-- a take's segment size. None is 0 (`Agrees.not_zero` in udx/specs/Agree.antt); here 0 counts as 1, so that every batch has an end.
+abbrev pub segment_of : rust.Option ℕ → Option ℕ
+segment_of None = none
+segment_of (Some size) = some (max size 1)
 
 -- what the steps of keeping do
-
--- the first `size` of a batch's `left` bytes are its next datagram
-pub record NextPiece (segment left size : ℕ) : Type 0 where
-  pub some_bytes : 0 < size
-  pub within : size ≤ left
-  pub next : (bytes : Bytes) → length bytes ≡ left
-      → datagrams_of (segment_of segment) bytes ≡ take size bytes ∷ datagrams_of (segment_of segment) (drop size bytes)
 
 -- datagram d was put into slot i; the other slots are unchanged
 pub record PutInSlot (k : Kept) (i : ℕ) (d : Bytes) (store : Bytes) (r : Kept) (after : Bytes) : Type 0 where

@@ -2,7 +2,7 @@
 // slot 0 follows slot 31.
 #![tactic(auto)]
 
-ghost use Rattle.std.specs.Prelude.{◌≡◌, [], ◌∷◌, ◌++◌, map, ◌≤◌, ◌<◌, ltb, length, get_or};
+ghost use Rattle.std.specs.Prelude.{◌≡◌, [], ◌∷◌, ◌++◌, map, ◌≤◌, ◌<◌, max, ltb, length, get_or, None, Some};
 ghost use Rattle.model.specs.Lists.{Bytes};
 ghost use Rattle.model.specs.Driving.{datagrams_of};
 ghost use Rattle.session_kept.specs.Kept.{
@@ -13,18 +13,16 @@ ghost use Rattle.session_kept.specs.Kept.{
   last_kept,
   fitted,
   segment_of,
-  NextPiece,
   PutInSlot,
   OneMoreKept,
 };
-
-use records::least;
 
 // Bytes in their store, 32 slots.
 pub const KEPT_STORE: usize = 44_800;
 
 const SLOT: usize = 1_400;
 
+// The datagrams' bytes are not in it but in a store that is lent: a record goes by value.
 #[derive(Clone, Copy)]
 pub struct Kept {
     // The slot of the oldest.
@@ -35,6 +33,7 @@ pub struct Kept {
     pub lengths: [u16; 32],
 }
 
+#[tactic(auto, unfolding(crate::specs::Kept::kept_of))]
 pub fn no_datagrams() -> Kept
     ensures { (store : Bytes) → kept_of result store ≡ [] }
 {
@@ -48,10 +47,11 @@ pub fn no_datagrams() -> Kept
 fn kept_count(k: Kept) -> u16
     ensures { result ≡ count_of k }
 {
-    if k.count < 32 { k.count } else { 32 }
+    k.count.min(32)
 }
 
 // "among the other end's last 32 taken"
+#[tactic(auto, using(crate::proofs::KeptLaws::kept_length))]
 pub fn is_kept(k: Kept, number: u16) -> bool
     ensures { (store : Bytes) → result ≡ ltb number (length (kept_of k store)) }
 {
@@ -66,17 +66,19 @@ fn slot(k: Kept, number: u16) -> usize
 }
 
 // The bytes of a slot's datagram.
+#[tactic(auto, using(crate::proofs::KeptLaws::slot_part), unfolding(crate::specs::Kept::slot_size))]
 fn in_slot(k: Kept, i: usize, kept: &[u8]) -> &[u8]
     requires i_bound { i < 32 }
     requires in_bounds { 44_800 ≤ length kept.now }
     ensures { result.now ≡ slot_bytes k kept.now i }
 {
     let at = i * SLOT;
-    let end = at + least(k.lengths[i] as usize, SLOT);
+    let end = at + SLOT.min(k.lengths[i] as usize);
     &kept[at..end]
 }
 
 // A kept datagram's bytes.
+#[tactic(auto, using(crate::proofs::KeptLaws::kept_get))]
 pub fn datagram(k: Kept, number: u16, kept: &[u8; KEPT_STORE]) -> &[u8]
     ensures { number < length (kept_of k kept.now) → result.now ≡ get_or (kept_of k kept.now) number [] }
 {
@@ -84,15 +86,14 @@ pub fn datagram(k: Kept, number: u16, kept: &[u8; KEPT_STORE]) -> &[u8]
 }
 
 // Puts a datagram into a slot in place of what it had.
-fn put_in(k: Kept, i: usize, datagram: &[u8], kept: &mut [u8]) -> Kept
+fn put_in(mut k: Kept, i: usize, datagram: &[u8], kept: &mut [u8]) -> Kept
     requires { (i < 32) × (44_800 ≤ length kept.old) }
     ensures { PutInSlot k i datagram.now kept.old result kept.new }
 {
-    let n = least(datagram.len(), SLOT);
-    records_stores::put_at(kept, i * SLOT, &datagram[0..n]);
-    let mut r = k;
-    r.lengths[i] = n as u16;
-    r
+    let n = datagram.len().min(SLOT);
+    records_stores::put_at(kept, i * SLOT, &datagram[..n]);
+    k.lengths[i] = n as u16;
+    k
 }
 
 // Counts the slot after the newest too; with 32 kept it was the oldest's.
@@ -100,58 +101,46 @@ fn one_more(k: Kept) -> Kept
     ensures { OneMoreKept k result }
 {
     let count = kept_count(k);
-    let mut r = k;
     if count < 32 {
-        r.count = count + 1;
-        return r;
+        return Kept {
+            count: count + 1,
+            ..k
+        };
     }
-    r.first = slot(k, 1) as u16;
-    r.count = 32;
-    r
+    Kept {
+        first: slot(k, 1) as u16,
+        count: 32,
+        ..k
+    }
 }
 
 // Keeps a datagram after the newest; with 32 kept it replaces the oldest.
+#[tactic(auto, using(crate::proofs::KeptLaws::kept_more))]
 fn keep_one(k: Kept, datagram: &[u8], kept: &mut [u8]) -> Kept
     requires { 44_800 ≤ length kept.old }
     ensures { kept_of result kept.new ≡ last_kept
         (kept_of k kept.old ++ (fitted datagram.now ∷ [])) }
 {
-    let count = kept_count(k);
-    let i = slot(k, count);
-    one_more(put_in(k, i, datagram, kept))
+    one_more(put_in(k, slot(k, kept_count(k)), datagram, kept))
 }
 
-// The length of the next datagram of a batch with some bytes left.
-fn piece(segment: usize, left: usize) -> usize
-    requires { 0 < left }
-    ensures { NextPiece segment left result }
+// How many bytes each datagram of a batch has, but for the last: all of them where there is no segment size.
+fn piece(segment: Option<usize>, whole: usize) -> usize
+    ensures some_bytes { 0 < result }
+    ensures all { segment ≡ None → whole ≤ result }
+    ensures cut { (size : _) → segment ≡ Some size → result ≡ max size 1 }
 {
-    if segment == 0 {
-        return left;
-    }
-    if segment < left { segment } else { left }
+    segment.unwrap_or(whole).max(1)
 }
 
-// Keeps the datagrams of a batch, one after another.
-fn keep_all(k: Kept, batch: &[u8], segment: usize, kept: &mut [u8]) -> Kept
-    requires { 44_800 ≤ length kept.old }
+// "A batch's datagrams are its pieces of segment size, or all of it where it has none"
+pub fn keep(k: Kept, batch: &[u8], segment: Option<usize>, kept: &mut [u8; KEPT_STORE]) -> Kept
     ensures { kept_of result kept.new ≡ last_kept
         (kept_of k kept.old ++ map fitted (datagrams_of (segment_of segment) batch.now)) }
 {
     let mut r = k;
-    let mut at: usize = 0;
-    while at < batch.len() {
-        let end = at + piece(segment, batch.len() - at);
-        r = keep_one(r, &batch[at..end], kept);
-        at = end;
+    for datagram in batch.chunks(piece(segment, batch.len())) {
+        r = keep_one(r, datagram, kept);
     }
     r
-}
-
-// "A batch's datagrams are its pieces of segment size, or all of it where it has none"
-pub fn keep(k: Kept, batch: &[u8], segment: usize, kept: &mut [u8; KEPT_STORE]) -> Kept
-    ensures { kept_of result kept.new ≡ last_kept
-        (kept_of k kept.old ++ map fitted (datagrams_of (segment_of segment) batch.now)) }
-{
-    keep_all(k, batch, segment, kept)
 }

@@ -2,19 +2,12 @@
 // reads as 0, so callers need not check the length.
 #![tactic(auto)]
 
-ghost use Rattle.std.specs.Prelude.{◌≡◌, ◌+◌, ◌*◌, ◌≤◌, get_or};
+ghost use Rattle.std.specs.Prelude.{◌≡◌, ℕ, ◌+◌, ◌<◌, ◌≤◌, get_or};
 ghost use Rattle.session_script.specs.Script.{width_of, u16_at, u32_at, u64_at, read_of, operands_of, Parses};
 
 use rtt::Nanos;
 
-// How many bytes of operands a command byte has.
-#[derive(Clone, Copy)]
-pub enum Width {
-    Known(usize),
-    Unknown,
-}
-
-// One command with its operands.
+// One command with its operands. The end that it is for, 0 or 1, stays a number: lines print it.
 #[derive(Clone, Copy)]
 pub enum Command {
     Write { end: u8, length: u16, fill: u8 },
@@ -23,169 +16,121 @@ pub enum Command {
     Hand { end: u8, number: u16, clock: Nanos },
     Read { end: u8, length: u16 },
     Close { end: u8 },
-    // Ends the run.
-    Bad,
 }
 
-// A command and how many bytes of the script it takes; where it ends the run, `stop` of session_turn skips the rest.
+// A command and how many bytes of the script it takes.
 #[derive(Clone, Copy)]
 pub struct Parsed {
     pub command: Command,
     pub size: usize,
 }
 
-// "Any other command byte ends the run"
-pub fn operand_width(command: u8) -> Width
+// How many bytes of operands a command byte has. "Any other command byte ends the run"
+#[tactic(auto, unfolding(crate::specs::Script::width_of))]
+pub fn operand_width(command: u8) -> Option<usize>
     ensures { result ≡ width_of command }
 {
     match command {
-        0 => Width::Unknown,
-        1 => Width::Known(4),
-        2 => Width::Known(9),
-        3 => Width::Known(1),
-        4 => Width::Known(11),
-        5 => Width::Known(3),
-        6 => Width::Known(1),
-        7..=255 => Width::Unknown,
+        0 => None,
+        1 => Some(4),
+        2 => Some(9),
+        3 => Some(1),
+        4 => Some(11),
+        5 => Some(3),
+        6 => Some(1),
+        7..=255 => None,
     }
 }
 
 pub fn byte_at(s: &[u8], i: usize) -> u8
     ensures { result ≡ get_or s.now i 0 }
 {
-    if i < s.len() { s[i] } else { 0 }
+    s.get(i).copied().unwrap_or(0)
 }
 
-fn two(low: u8, high: u8) -> u16
-    ensures { result ≡ low + 256 * high }
+// The N bytes from a place in a command on.
+fn bytes_at<const N: usize>(s: &[u8], place: u8) -> [u8; N]
+    requires { N ≤ 8 }
+    ensures { (i : ℕ) → i < N → get_or result i 0 ≡ get_or s.now (place + i) 0 }
 {
-    low as u16 + 256 * (high as u16)
-}
-
-fn four(low: u16, high: u16) -> u32
-    ensures { result ≡ low + 65_536 * high }
-{
-    low as u32 + 65_536 * (high as u32)
-}
-
-fn eight(low: u32, high: u32) -> u64
-    ensures { result ≡ low + 4_294_967_296 * high }
-{
-    low as u64 + 4_294_967_296 * (high as u64)
-}
-
-fn le16(s: &[u8], i: usize) -> u16
-    requires { i ≤ 1_000 }
-    ensures { result ≡ u16_at s.now i }
-{
-    let low = byte_at(s, i);
-    let high = byte_at(s, i + 1);
-    two(low, high)
-}
-
-fn le32(s: &[u8], i: usize) -> u32
-    requires { i + 2 ≤ 1_000 }
-    ensures { result ≡ u32_at s.now i }
-{
-    let low = le16(s, i);
-    let high = le16(s, i + 2);
-    four(low, high)
-}
-
-fn le64(s: &[u8], i: usize) -> u64
-    requires { i + 6 ≤ 1_000 }
-    ensures { result ≡ u64_at s.now i }
-{
-    let low = le32(s, i);
-    let high = le32(s, i + 4);
-    eight(low, high)
+    let mut bytes = [0; N];
+    for i in 0..N {
+        bytes[i] = byte_at(s, place as usize + i);
+    }
+    bytes
 }
 
 // The two-byte number at a place in a command.
 pub fn u16_at(s: &[u8], place: u8) -> u16
     ensures { result ≡ u16_at s.now place }
 {
-    le16(s, place as usize)
+    u16::from_le_bytes(bytes_at(s, place))
 }
 
 // The four-byte number.
 pub fn u32_at(s: &[u8], place: u8) -> u32
     ensures { result ≡ u32_at s.now place }
 {
-    le32(s, place as usize)
+    u32::from_le_bytes(bytes_at(s, place))
 }
 
 // The eight-byte number.
 pub fn u64_at(s: &[u8], place: u8) -> u64
     ensures { result ≡ u64_at s.now place }
 {
-    le64(s, place as usize)
+    u64::from_le_bytes(bytes_at(s, place))
 }
 
 // "a read length above 4,096" ends the run
-fn read_command(end: u8, size: u16) -> Command
+fn read_command(end: u8, size: u16) -> Option<Command>
     ensures { result ≡ read_of end size }
 {
     if 4_096 < size {
-        return Command::Bad;
+        return None;
     }
-    Command::Read { end, length: size }
+    Some(Command::Read { end, length: size })
 }
 
-// The command with this byte, for this end, at the front of s, which has all its operands.
-fn operands(command: u8, end: u8, s: &[u8]) -> Command
+// The command with this byte, for this end, at the front of s, which has all its operands; none ends the run.
+#[tactic(auto, unfolding(crate::specs::Script::operands_of))]
+fn operands(command: u8, end: u8, s: &[u8]) -> Option<Command>
     ensures { result ≡ operands_of command end s.now }
 {
     match command {
-        0 => Command::Bad,
-        1 => Command::Write {
+        1 => Some(Command::Write {
             end,
             length: u16_at(s, 2),
             fill: byte_at(s, 4),
-        },
-        2 => Command::Drive {
+        }),
+        2 => Some(Command::Drive {
             end,
             clock: Nanos(u64_at(s, 2)),
-        },
-        3 => Command::Take { end },
-        4 => Command::Hand {
+        }),
+        3 => Some(Command::Take { end }),
+        4 => Some(Command::Hand {
             end,
             number: u16_at(s, 2),
             clock: Nanos(u64_at(s, 4)),
-        },
+        }),
         5 => read_command(end, u16_at(s, 2)),
-        6 => Command::Close { end },
-        7..=255 => Command::Bad,
+        6 => Some(Command::Close { end }),
+        _ => None,
     }
 }
 
-// The command at the front of the rest of a script. A short operand or an end above 1 ends the run too.
-pub fn parse(s: &[u8]) -> Parsed
+// The command at the front of the rest of a script; none ends the run, as does a short operand or an end above 1.
+#[tactic(auto, unfolding(crate::specs::Script::parsed_of))]
+pub fn parse(s: &[u8]) -> Option<Parsed>
     ensures { Parses s.now result }
 {
-    let all = s.len();
     let command = byte_at(s, 0);
     let end = byte_at(s, 1);
-    let Width::Known(width) = operand_width(command) else {
-        return Parsed {
-            command: Command::Bad,
-            size: all,
-        };
-    };
-    if all <= width {
-        return Parsed {
-            command: Command::Bad,
-            size: all,
-        };
+    let width = operand_width(command)?;
+    if width < s.len() && end <= 1 {
+        return Some(Parsed {
+            command: operands(command, end, s)?,
+            size: width + 1,
+        });
     }
-    if 1 < end {
-        return Parsed {
-            command: Command::Bad,
-            size: all,
-        };
-    }
-    Parsed {
-        command: operands(command, end, s),
-        size: width + 1,
-    }
+    None
 }

@@ -1,13 +1,12 @@
 -- The laws of `put`: how several writes into one buffer combine.
-use Prim.Native.Nat.{ℕ, suc, ◌+◌, ◌≤◌, ◌<◌}
+use Prim.Native.Nat.{ℕ, ◌+◌, ◌≤◌}
 use mathlib.Core.Path.{◌≡◌, sym, ap, ◌∙◌}
-use mathlib.Core.List.{List, [], ◌∷◌, ◌++◌, append_assoc}
+use mathlib.Core.List.{List, ◌++◌, append_assoc}
 use native.Mathlib.Nat.{add_assoc}
-use native.Mathlib.Numerals.{add-one}
 use native.Mathlib.Omega.{arith}
-use lib.ListN.{length, take, drop, set, length-append, length-drop}
-use lib.Seq.{paste-zero, length-take-le, take_at, drop-append-add, drop-drop, set_split, append_snoc}
-use Rattle.session_text.specs.Put.{put, Wrote, Counts}
+use lib.ListN.{length, take, drop, length-append}
+use lib.Seq.{length-take-le, take_at, drop-append-add, drop-drop}
+use Rattle.session_text.specs.Put.{put, Wrote}
 
 length_head : (d : List ℕ) (at : ℕ) (a : List ℕ) → at ≤ length d → length (take at d ++ a) ≡ at + length a
 length_head d at a h = length-append (take at d) a ∙ ap (λ (k : ℕ). k + length a) (length-take-le at d h)
@@ -21,17 +20,6 @@ put_put d at a b h =
     let rest : drop (k + length b) (p ++ drop k d) ≡ drop (k + length b) d =
     ap (λ (m : ℕ). drop (m + length b) (p ++ drop k d)) (sym e) ∙ drop-append-add p (drop k d) (length b) ∙ drop-drop (length b) k d in
     rw (take_at p (drop k d) k e, rest, append_assoc (take at d) a b, length-append, add_assoc)
-
-pub length_put : (d : List ℕ) (at : ℕ) (a : List ℕ) → at + length a ≤ length d → length (put d at a) ≡ length d
-length_put d at a h =
-    simp (length-append, length-drop) (omega (arith, length-take-le at d (omega arith)))
-
--- a store is a write of one byte
-pub put_one : (d : List ℕ) (at : ℕ) (b : ℕ) → at < length d → set d at b ≡ put d at (b ∷ [])
-put_one d at b h = set_split d at b h ∙ sym (append_snoc (take at d) b (drop (suc at) d)) ∙ rw (add-one)
-
-pub put_nil : (d : List ℕ) (at : ℕ) → put d at [] ≡ d
-put_nil d at = sym (paste-zero d at [])
 
 -- two writes, the second where the first ended
 pub then : {d d₁ d₂ : List ℕ} {at k r m n : ℕ} {a b : List ℕ} → at ≤ length d → Wrote d d₁ at k m a → Wrote d₁ d₂ k r n b → Wrote d d₂ at r (m + n) (a ++ b)
@@ -48,6 +36,3 @@ wrote e h = record { past = e.0; bytes = e.1; room = omega (arith, e.0) }
 -- a larger bound
 pub at_most : {d d' : List ℕ} {at r m n : ℕ} {t : List ℕ} → Wrote d d' at r m t → m ≤ n → Wrote d d' at r n t
 at_most w h = record { past = w.past; bytes = w.bytes; room = omega (arith, w.room) }
-
-pub counts : (r : ℕ) (d : List ℕ) → r ≤ length d → Counts r d
-counts r d h = (h, sym (length-take-le r d h))

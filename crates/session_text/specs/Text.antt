@@ -1,7 +1,8 @@
 -- The lines of a session, as lists of ASCII codes.
-use Rattle.std.specs.Prelude.{ℕ, zero, suc, ◌+◌, ◌/◌, ◌%◌, cond, List, [], ◌∷◌, ◌++◌, length, eqb, ltb}
+use Rattle.error.specs.declared.Refusal.{Refusal}
+use Rattle.std.specs.Prelude.{ℕ, zero, suc, ◌+◌, ◌/◌, ◌%◌, cond, List, [], ◌∷◌, ◌++◌, length, eqb, ltb, Result, Ok, Err}
 use Rattle.error.specs.declared.Outcome.{Outcome}
-use Rattle.error.specs.declared.Outcome.TheVariants.{Ready, Waiting, Done, Nothing, Refused}
+use Rattle.error.specs.declared.Outcome.TheVariants.{Ready, Waiting, Done, Nothing}
 use Rattle.error.specs.Answers.{number_of}
 use Rattle.session_text.specs.declared.lines.Name.{Name}
 use Rattle.session_text.specs.declared.lines.Name.TheVariants.{Write, Drive, Take, Hand, Read, Close, Script}
@@ -38,12 +39,12 @@ name_of Close = 99 ∷ 108 ∷ 111 ∷ 115 ∷ 101 ∷ []
 name_of Script = 115 ∷ 99 ∷ 114 ∷ 105 ∷ 112 ∷ 116 ∷ []
 
 -- "outcome (ok, wait, done, none or the refusal's number)"
-abbrev pub outcome_of : Outcome → List ℕ
-outcome_of Ready = 111 ∷ 107 ∷ []
-outcome_of Waiting = 119 ∷ 97 ∷ 105 ∷ 116 ∷ []
-outcome_of Done = 100 ∷ 111 ∷ 110 ∷ 101 ∷ []
-outcome_of Nothing = 110 ∷ 111 ∷ 110 ∷ 101 ∷ []
-outcome_of (Refused why) = decimal_of (number_of why)
+abbrev pub outcome_of : Result Outcome Refusal → List ℕ
+outcome_of (Ok Ready) = 111 ∷ 107 ∷ []
+outcome_of (Ok Waiting) = 119 ∷ 97 ∷ 105 ∷ 116 ∷ []
+outcome_of (Ok Done) = 100 ∷ 111 ∷ 110 ∷ 101 ∷ []
+outcome_of (Ok Nothing) = 110 ∷ 111 ∷ 110 ∷ 101 ∷ []
+outcome_of (Err why) = decimal_of (number_of why)
 
 abbrev pub space_of : List ℕ
 space_of = 32 ∷ []
@@ -52,15 +53,15 @@ abbrev pub end_of : List ℕ
 end_of = 10 ∷ []
 
 -- end, outcome and count, each after a space
-unfoldable pub answer_of : ℕ → Outcome → ℕ → List ℕ
+unfoldable pub answer_of : ℕ → Result Outcome Refusal → ℕ → List ℕ
 answer_of end o n = space_of ++ decimal_of end ++ space_of ++ outcome_of o ++ space_of ++ decimal_of n
 
 -- "A line has command, end, outcome .., count of bytes"
-unfoldable pub line_of : Name → ℕ → Outcome → ℕ → List ℕ
+unfoldable pub line_of : Name → ℕ → Result Outcome Refusal → ℕ → List ℕ
 line_of name end o n = name_of name ++ answer_of end o n ++ end_of
 
 -- ".. and for reads the bytes"
-unfoldable pub bytes_line_of : Name → ℕ → Outcome → ℕ → List ℕ → List ℕ
+unfoldable pub bytes_line_of : Name → ℕ → Result Outcome Refusal → ℕ → List ℕ → List ℕ
 bytes_line_of name end o n b = name_of name ++ answer_of end o n ++ space_of ++ bytes_of b ++ end_of
 
 -- "the last line is then `script` and its command's offset"

@@ -4,7 +4,7 @@ ghost use Rattle.session_text.specs.Put.{put, Wrote, Counts};
 ghost use Rattle.session_text.specs.Text.{name_of, line_of, bytes_line_of, script_line_of};
 
 use crate::pieces::{put_answer, put_bytes, put_decimal, put_end, put_space, put_word};
-use error::Outcome;
+use error::{Outcome, Refusal};
 
 // Bytes in a line's buffer: the longest line is that of a 4,096-byte read.
 pub const LINE: usize = 8_400;
@@ -21,23 +21,38 @@ pub enum Name {
     Script,
 }
 
+impl Name {
+    fn word(self) -> &'static [u8]
+        ensures word { result.now ≡ name_of self }
+        ensures short { length result.now ≤ 6 }
+    {
+        match self {
+            Name::Write => b"write",
+            Name::Drive => b"drive",
+            Name::Take => b"take",
+            Name::Hand => b"hand",
+            Name::Read => b"read",
+            Name::Close => b"close",
+            Name::Script => b"script",
+        }
+    }
+}
+
 fn put_name(out: &mut [u8], name: Name) -> usize
     requires { 6 ≤ length out.old }
     ensures { Wrote out.old out.new 0 result 6 (name_of name) }
 {
-    match name {
-        Name::Write => put_word(out, 0, b"write"),
-        Name::Drive => put_word(out, 0, b"drive"),
-        Name::Take => put_word(out, 0, b"take"),
-        Name::Hand => put_word(out, 0, b"hand"),
-        Name::Read => put_word(out, 0, b"read"),
-        Name::Close => put_word(out, 0, b"close"),
-        Name::Script => put_word(out, 0, b"script"),
-    }
+    put_word(out, 0, name.word())
 }
 
 // "A line has command, end, outcome .., count"
-pub fn put_line(out: &mut [u8], name: Name, end: u8, outcome: Outcome, count: u64) -> usize
+pub fn put_line(
+    out: &mut [u8],
+    name: Name,
+    end: u8,
+    outcome: Result<Outcome, Refusal>,
+    count: u64,
+) -> usize
     requires { 80 ≤ length out.old }
     ensures wrote { Wrote out.old out.new 0 result 70 (line_of name end outcome count) }
     ensures counts { Counts result out.new }
@@ -52,7 +67,7 @@ pub fn put_bytes_line(
     out: &mut [u8],
     name: Name,
     end: u8,
-    outcome: Outcome,
+    outcome: Result<Outcome, Refusal>,
     count: u64,
     bytes: &[u8],
 ) -> usize

@@ -2,30 +2,23 @@
 -- count covers them; the ends that `open_ends` hands out are laid out and seen as the model's fresh ones.
 use Prim.Native.Nat.{ℕ, zero, suc, ◌+◌, ◌≤◌, ◌<◌}
 use native.Mathlib.Omega.{arith}
-use mathlib.Core.Path.{◌≡◌, refl, sym, ap, ap₂, ◌∙◌}
-use mathlib.Core.Bool.{Bool, true, false, cond}
+use mathlib.Core.Path.{◌≡◌, refl, sym, ap, ◌∙◌}
 use mathlib.Core.List.{List, [], ◌∷◌, ◌++◌}
-use mathlib.Core.Option.{Option, none}
-use lib.Dec.{ltb}
+use mathlib.Core.Option.{none}
 use lib.ListN.{length, take}
 use borrow.Author.Tests.{lt-ltb, le-ltb}
-use Rattle.error.specs.declared.Refusal.{Refusal}
-use Rattle.error.specs.declared.Outcome.TheVariants.{Ready}
 use Rattle.model.specs.Lists.{Bytes}
 use Rattle.model.specs.Stream.{fresh}
 use Rattle.records.specs.Open.{open_why, opened_outcome}
 use Rattle.records.specs.declared.«open».Opened.{Opened}
-use Rattle.records.specs.Seen.{Lent}
-use Rattle.promise.specs.Runs.{OpenedBy}
 use Rattle.promise.proofs.Runs.{Stands, open_stands}
 use Rattle.session_ends.specs.declared.SessionEnd.{SessionEnd}
 use Rattle.session_ends.specs.Calls.{Stores, lent_of, Fresh}
-use Rattle.session_commands.specs.Acting.{KeptEnd}
 use Rattle.session_commands.specs.Acts.{side_of, LaidEnd}
 use Rattle.session_turn.specs.declared.running.Ends.{Ends}
 use Rattle.session_turn.specs.Session.{Sides, opened, opened_sides, turn, printed_from, session}
-use Rattle.session_turn.specs.Turned.{Turned, SessionLends, sides_of, Plays}
-use Rattle.session_turn.specs.Whole.{MadeTurn, MakesTurn, RunsFrom, printed_by, StoreLengths, OpenedEnds, WholeSession}
+use Rattle.session_turn.specs.Turned.{SessionLends, sides_of}
+use Rattle.session_turn.specs.Whole.{MadeTurn, RunsFrom, printed_by, StoreLengths, WholeSession}
 
 -- the turns
 

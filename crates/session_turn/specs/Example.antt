@@ -1,5 +1,5 @@
 -- 01's example session, computed over the definition: its script, and what it prints. Statement; computed in proofs/Example.antt.
-use Rattle.std.specs.Prelude.{ℕ, ◌≡◌, List, [], ◌∷◌, ◌++◌}
+use Rattle.std.specs.Prelude.{ℕ, ◌≡◌, List, [], ◌∷◌}
 use Rattle.model.specs.Lists.{Bytes}
 use Rattle.session_turn.specs.Session.{session}
 

@@ -1,10 +1,11 @@
 -- The session of 01 as a function of its script: what each command does to the two ends, and what is printed. `turn` is one command,
 -- `session` a whole script; what a command does to the end it is for is `acted` (session_commands/specs/Acting.antt).
-use Rattle.std.specs.Prelude.{ℕ, zero, suc, ◌+◌, Bool, cond, ◌&&◌, List, [], ◌++◌, eqb, ltb, length, take, drop}
+use Rattle.std.specs.Prelude.{ℕ, zero, suc, ◌+◌, Bool, cond, ◌&&◌, List, [], ◌++◌, eqb, ltb, length, take, drop, Option, Some, None}
 use Rattle.model.specs.Lists.{Bytes}
 use Rattle.model.specs.Stream.{fresh}
 use Rattle.session_script.specs.declared.Command.{Command}
 use Rattle.session_script.specs.declared.Command.TheVariants as command
+use Rattle.session_script.specs.declared.Parsed.{Parsed}
 use Rattle.session_script.specs.Script.{parsed_of}
 use Rattle.session_text.specs.Text.{script_line_of}
 use Rattle.session_commands.specs.Acting.{KeptEnd, Acted, acted, has_datagram}
@@ -22,7 +23,7 @@ opened_sides = record { zero = opened 1 2; one = opened 2 1 }
 
 -- one command
 
--- the end that a command is for, 0 or 1; one that ends the run is for neither
+-- the end that a command is for, 0 or 1
 abbrev pub end_of : Command → ℕ
 end_of (command.Write number size fill) = number
 end_of (command.Drive number clock) = number
@@ -30,7 +31,6 @@ end_of (command.Take number) = number
 end_of (command.Hand number which clock) = number
 end_of (command.Read number size) = number
 end_of (command.Close number) = number
-end_of command.Bad = 2
 
 -- it is for this end and, if it is a hand, its datagram is one of the other end's kept ones
 abbrev pub is_for : ℕ → Command → List Bytes → Bool
@@ -52,15 +52,16 @@ on_one w next a = record { sides = record { zero = w.zero; one = a.side }; next 
 abbrev pub stopped : Sides → (size at : ℕ) → Played
 stopped w size at = record { sides = w; next = size; line = script_line_of at }
 
-abbrev pub played_with : Command → Sides → (size next at : ℕ) → Played
-played_with c w size next at =
-    cond (is_for 0 c w.one.kept) (on_zero w next (acted c w.zero w.one.kept))
-    (cond (is_for 1 c w.zero.kept) (on_one w next (acted c w.one w.zero.kept))
+abbrev pub played_with : Option Parsed → Sides → (size at : ℕ) → Played
+played_with None w size at = stopped w size at
+played_with (Some p) w size at =
+    cond (is_for 0 p.command w.one.kept) (on_zero w (at + p.size) (acted p.command w.zero w.one.kept))
+    (cond (is_for 1 p.command w.zero.kept) (on_one w (at + p.size) (acted p.command w.one w.zero.kept))
     (stopped w size at))
 
 -- the command at `at`, a place in the script
 unfoldable pub turn : Bytes → ℕ → Sides → Played
-turn script at w = played_with (parsed_of (drop at script)).command w (length script) (at + (parsed_of (drop at script)).size) at
+turn script at w = played_with (parsed_of (drop at script)) w (length script) at
 
 -- a whole script
 

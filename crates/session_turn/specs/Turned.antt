@@ -1,11 +1,9 @@
 -- One turn of the code is the session's, on what is seen of the ends.
-use Rattle.std.specs.Prelude.{ℕ, ◌+◌, ◌<◌, ◌≤◌, ◌≡◌, length, take, drop}
+use Rattle.std.specs.Prelude.{ℕ, ◌<◌, ◌≤◌, ◌≡◌, take}
 use Rattle.model.specs.Lists.{Bytes}
 use Rattle.session_ends.specs.Calls.{Stores, stores}
-use Rattle.session_script.specs.Script.{parsed_of}
 use Rattle.session_commands.specs.Acts.{side_of, LaidEnd}
 use Rattle.session_turn.specs.declared.running.Ends.{Ends}
-use Rattle.session_turn.specs.declared.running.Placed.{Placed}
 use Rattle.session_turn.specs.declared.running.Turn.{Turn}
 use Rattle.session_turn.specs.Session.{Sides, Played}
 
@@ -14,13 +12,6 @@ pub record Turned (size at : ℕ) (r : Turn) : Type 0 where
   pub on : at < size → at < r.next
   pub within : r.next ≤ size
   pub fits : r.len ≤ 8_400
-
--- the command at a place, and where the next one starts
-pub record Parsed (script : Bytes) (at : ℕ) (r : Placed) : Type 0 where
-  pub command : r.command ≡ (parsed_of (drop at script)).command
-  pub next : r.next ≡ at + (parsed_of (drop at script)).size
-  pub on : at < r.next
-  pub within : r.next ≤ length script
 
 -- what is lent with both ends: the stores of each, and the bytes of its kept datagrams
 pub record SessionLends : Type 0 where

@@ -1,6 +1,6 @@
--- `compare_from` is safe and terminates: each command ends past where it starts.
+-- `compare` is safe and terminates: each command ends past where it starts.
 use Rattle.std.proofs.Common.{length, ◌-◌, ◌≤◌}
-use Rattle.drill_replay.proofs.comparing.compare_from.Given as goal
+use Rattle.drill_replay.proofs.comparing.compare.Given as goal
 
 abbrev pub invariant-loop-from : goal.invariant-loop-from
 invariant-loop-from l = l.«from» ≤ length l.fn.script
