@@ -119,7 +119,7 @@ fn look(
     }
 }
 
-// Three slices, here and in `make_broken`: the borrow check does not cover slices of three fields behind one reference to a struct.
+// Three slices here, and three arrays in `make_broken`: the borrow check does not cover slices of three fields behind one reference to a struct.
 fn make(
     call: DrillCall,
     e: SessionEnd,

@@ -171,7 +171,7 @@ impl Drill {
         }
     }
 
-    // How many bytes it takes of the script that it is at the front of; none ends the run, as does a short operand or one out of range.
+    // How many bytes it takes of the script that it is at the front of; none, which ends the run, for a short operand or one out of range.
     pub fn size_in(self, s: &[u8]) -> Option<usize>
         ensures { IfSome result (λ n. (0 < n) × (n ≤ length s.now)) }
     {

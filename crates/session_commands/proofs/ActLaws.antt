@@ -46,7 +46,7 @@ at_most buf count n e = go (leb count (length buf)) refl
     go false h = let k = leb-false count (length buf) h in take_all n buf (omega arith) ∙ sym (take_all count buf (omega arith))
 
 -- a segment size cuts a batch into the datagrams that the model has
-same_size : (size : Option ℕ) → size ≢ Some 0 → kept_spec.segment_of size ≡ segment_of size
+same_size : (size : Option ℕ) → size ≢ Some 0 → kept_spec.kept_segment size ≡ segment_of size
 same_size None h = refl
 same_size (Some zero) h = absurd (h refl)
 same_size (Some (suc n)) h = ap some (omega arith)

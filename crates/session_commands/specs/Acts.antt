@@ -5,7 +5,7 @@ use Rattle.model.specs.Driving as model_out
 use Rattle.records.specs.Seen.{seen}
 use Rattle.udx.specs.Agree.{laid_out, Answers}
 use Rattle.session_kept.specs.declared.Kept.{Kept}
-use Rattle.session_kept.specs.Kept.{kept_of, last_kept, fitted, segment_of}
+use Rattle.session_kept.specs.Kept.{kept_of, last_kept, fitted, kept_segment}
 use Rattle.session_ends.specs.declared.SessionEnd.{SessionEnd}
 use Rattle.session_ends.specs.declared.calls.Called.{Called}
 use Rattle.session_ends.specs.Calls.{Stores, lent_of, step_of}
@@ -43,4 +43,4 @@ rekept c k =
 -- the datagrams of the batch at the front of buf are kept
 pub record KeepsBatch (c : Called) (kept buf : Bytes) (r : Called) (kept' : Bytes) : Type 0 where
   pub rest : r ≡ rekept c r.end.kept
-  pub keeps : kept_of r.end.kept kept' ≡ last_kept (kept_of c.end.kept kept ++ map fitted (model_out.datagrams_of (segment_of c.segment) (take c.count buf)))
+  pub keeps : kept_of r.end.kept kept' ≡ last_kept (kept_of c.end.kept kept ++ map fitted (model_out.datagrams_of (kept_segment c.segment) (take c.count buf)))

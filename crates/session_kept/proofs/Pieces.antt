@@ -14,7 +14,7 @@ use lib.ListN.{length, take, drop, length-drop, drop_of_length-le}
 use lib.Seq.{take_all, drop-length}
 use Rattle.model.specs.Lists.{Bytes, cut}
 use Rattle.model.specs.Driving.{whole, datagrams_of}
-use Rattle.session_kept.specs.Kept.{segment_of}
+use Rattle.session_kept.specs.Kept.{kept_segment}
 
 -- the first `size` of a batch's `left` bytes are its next datagram
 pub record NextPiece (segment : Option ℕ) (left size : ℕ) : Type 0 where
@@ -73,7 +73,7 @@ next_last segment left p l h = record { some_bytes = h; within = omega arith; ne
 
 -- as many bytes as the pieces have, or all that is left
 pub next_piece : (segment : rust.Option ℕ) (size left n : ℕ) → n ≡ min size left → 0 < left → (segment ≡ None → left ≤ size)
-    → ((m : ℕ) → segment ≡ Some m → size ≡ max m 1) → NextPiece (segment_of segment) left n
+    → ((m : ℕ) → segment ≡ Some m → size ≡ max m 1) → NextPiece (kept_segment segment) left n
 next_piece None size left n is h all cut = let covers : left ≤ size = all refl in let q : left ≡ n = omega arith in subst (NextPiece none left) q (next_whole left h)
 next_piece (Some m) size left n is h all cut = subst (λ (k : ℕ). NextPiece (some k) left n) whole (go (ltb size left) refl)
   where

@@ -35,10 +35,11 @@ last_kept ds = drop (length ds - 32) ds
 unfoldable pub fitted : Bytes → Bytes
 fitted d = take slot_size d
 
--- a take's segment size. None is 0 (`Agrees.not_zero` in udx/specs/Agree.antt); here 0 counts as 1, so that every batch has an end.
-abbrev pub segment_of : rust.Option ℕ → Option ℕ
-segment_of None = none
-segment_of (Some size) = some (max size 1)
+-- A take's segment size, by which a batch is cut. No take answers a size of 0 (`Agrees.not_zero` in udx/specs/Agree.antt); here 0 counts as
+-- 1, so that every batch has an end.
+abbrev pub kept_segment : rust.Option ℕ → Option ℕ
+kept_segment None = none
+kept_segment (Some size) = some (max size 1)
 
 -- what the steps of keeping do
 

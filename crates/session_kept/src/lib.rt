@@ -12,7 +12,7 @@ ghost use Rattle.session_kept.specs.Kept.{
   kept_of,
   last_kept,
   fitted,
-  segment_of,
+  kept_segment,
   PutInSlot,
   OneMoreKept,
 };
@@ -124,7 +124,8 @@ fn keep_one(k: Kept, datagram: &[u8], kept: &mut [u8]) -> Kept
     one_more(put_in(k, slot(k, kept_count(k)), datagram, kept))
 }
 
-// How many bytes each datagram of a batch has, but for the last: all of them where there is no segment size.
+// How many bytes each datagram of a batch has, but for the last: all of them where there is no segment size. A size of 0 would have no end,
+// so it counts as 1.
 fn piece(segment: Option<usize>, whole: usize) -> usize
     ensures some_bytes { 0 < result }
     ensures all { segment ≡ None → whole ≤ result }
@@ -136,7 +137,7 @@ fn piece(segment: Option<usize>, whole: usize) -> usize
 // "A batch's datagrams are its pieces of segment size, or all of it where it has none"
 pub fn keep(k: Kept, batch: &[u8], segment: Option<usize>, kept: &mut [u8; KEPT_STORE]) -> Kept
     ensures { kept_of result kept.new ≡ last_kept
-        (kept_of k kept.old ++ map fitted (datagrams_of (segment_of segment) batch.now)) }
+        (kept_of k kept.old ++ map fitted (datagrams_of (kept_segment segment) batch.now)) }
 {
     let mut r = k;
     for datagram in batch.chunks(piece(segment, batch.len())) {

@@ -118,7 +118,7 @@ fn operands(command: u8, end: u8, s: &[u8]) -> Option<Command>
     }
 }
 
-// The command at the front of the rest of a script; none ends the run, as does a short operand or an end above 1.
+// The command at the front of the rest of a script; none, which ends the run, also for a short operand or an end above 1.
 #[tactic(auto, unfolding(crate::specs::Script::parsed_of))]
 pub fn parse(s: &[u8]) -> Option<Parsed>
     ensures { Parses s.now result }

@@ -30,7 +30,6 @@ pub struct Turn {
 
 // Whether the command is for this end and can run there, as a hand of "a datagram not kept" cannot.
 fn is_for(number: u8, command: Command, theirs: Kept) -> bool
-    requires { number < 2 }
     ensures { (store : _) → result ≡ is_for number command (kept_of theirs store) }
 {
     match command {

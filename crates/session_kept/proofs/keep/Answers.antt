@@ -9,7 +9,7 @@ use lib.ListN.{length, take, drop, length-append}
 use lib.Seq.{take_at, drop_at}
 use Rattle.model.specs.Lists.{Bytes}
 use Rattle.model.specs.Driving.{datagrams_of}
-use Rattle.session_kept.specs.Kept.{kept_of, last_kept, fitted, segment_of}
+use Rattle.session_kept.specs.Kept.{kept_of, last_kept, fitted, kept_segment}
 use Rattle.session_kept.proofs.Pieces.{next_piece, next_none}
 use Rattle.session_kept.proofs.KeptLaws.{kept_few, last_all, last_last}
 use Rattle.session_kept.proofs.keep.Invariants.{last_with}
@@ -20,7 +20,7 @@ turn : (xs ys : List Bytes) (segment : Option ℕ) (size : ℕ) (left d after : 
     → 0 < length left → (segment ≡ None → length left ≤ size) → ((m : ℕ) → segment ≡ Some m → size ≡ max m 1) → ys ≡ last_kept (xs ++ (fitted d ∷ []))
     → last_with ys segment after ≡ last_with xs segment left
 turn xs ys segment size left d after is long some all cut e =
-    let ds : (Bytes → List Bytes) = datagrams_of (segment_of segment) in
+    let ds : (Bytes → List Bytes) = datagrams_of (kept_segment segment) in
     let rest : List Bytes = map fitted (ds after) in
     let front : take (length d) left ≡ d = ap (take (length d)) is ∙ take_at d after (length d) refl in
     let back : drop (length d) left ≡ after = ap (drop (length d)) is ∙ drop_at d after (length d) refl in
@@ -36,7 +36,7 @@ done : (xs : List Bytes) (segment : Option ℕ) (left : Bytes) → length xs ≤
 done xs segment (b ∷ left) few none = absurd (omega arith)
 done xs segment [] few none =
     sym (last_all xs few) ∙ ap last_kept (sym (append-nil xs))
-    ∙ ap (λ (l : List Bytes). last_kept (xs ++ map fitted l)) (sym (next_none (segment_of segment)))
+    ∙ ap (λ (l : List Bytes). last_kept (xs ++ map fitted l)) (sym (next_none (kept_segment segment)))
 
 pub loop-datagram-preserved : goal.loop-datagram-preserved
 loop-datagram-preserved c =

@@ -6,12 +6,12 @@ use lib.ListN.{length}
 use Rattle.std.specs.Slice.Iter.{chunks_rest, chunks_size}
 use Rattle.model.specs.Lists.{Bytes}
 use Rattle.model.specs.Driving.{datagrams_of}
-use Rattle.session_kept.specs.Kept.{kept_of, last_kept, fitted, segment_of}
+use Rattle.session_kept.specs.Kept.{kept_of, last_kept, fitted, kept_segment}
 use Rattle.session_kept.proofs.keep.Given as goal
 
 -- the last 32 of some datagrams followed by those of the bytes
 abbrev pub last_with : List Bytes → Option ℕ → Bytes → List Bytes
-last_with ds segment bytes = last_kept (ds ++ map fitted (datagrams_of (segment_of segment) bytes))
+last_with ds segment bytes = last_kept (ds ++ map fitted (datagrams_of (kept_segment segment) bytes))
 
 abbrev pub invariant-loop-datagram : goal.invariant-loop-datagram
 invariant-loop-datagram l =
