@@ -4,10 +4,10 @@
 ghost use Rattle.std.specs.Prelude.{◌≡◌};
 ghost use Rattle.error.specs.Answers.{number_of, met, error_or};
 
-// The Rust's UdxError; a stream that runs has none.
+// The Rust's UdxError. The discriminants are C's numbers. A running stream has no error.
 #[derive(Clone, Copy, PartialEq, Eq)]
 pub enum UdxError {
-    ConnectionReset,
+    ConnectionReset = 1,
     UnexpectedEof,
     TimedOut,
 }
@@ -59,7 +59,7 @@ pub enum Outcome {
 }
 
 impl Refusal {
-    // The refusal's number in 01.
+    // The refusal's number in 01, which C gets and a session's line prints.
     pub fn number(self) -> u8
         ensures { result ≡ number_of self }
     {

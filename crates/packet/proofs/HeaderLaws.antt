@@ -1,5 +1,6 @@
--- Laws of the header: its 20 bytes, what a decode returns, and what an encode returns and leaves in a buffer that is long enough, too
--- short, or exactly a header long. Each is one case of a definition.
+-- Laws of the header: that it has 20 bytes, and that equal runs of bytes make equal headers (`laid`); that a decode refuses fewer than 20
+-- bytes, and what follows from an accepted one; what an encode returns and what it leaves in the buffer, each for a buffer that is long
+-- enough and for one that is too short; and that the code's `&` on the type finds the bits of END and of SACK that `has_type` defines.
 use Prim.Native.Nat.{ℕ, ◌+◌, ◌*◌, ◌/◌, ◌%◌, ◌^◌, ◌≤◌, ◌<◌}
 use lib.Bits.{bit_and}
 use Rattle.std.specs.Int.Bits.{and_zero_r}

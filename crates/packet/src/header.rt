@@ -20,7 +20,8 @@ pub struct Header {
 }
 
 impl Header {
-    // Reads the header at the front of a datagram; what follows it is ignored.
+    // Reads the header at the front of a datagram; what follows it is ignored. It keeps the Rust's name, which
+    // the promises cite, so it is no TryFrom.
     #[tactic(auto, unfolding(crate::specs::Header::decoded))]
     pub fn from_bytes(buf: &[u8]) -> Result<Header, Refusal>
         ensures { result ≡ decoded buf.now }
@@ -38,7 +39,7 @@ impl Header {
         })
     }
 
-    // The header's bytes.
+    // The header's bytes. The Rust's name, so no From impl.
     #[tactic(auto, unfolding(crate::specs::Header::header_bytes), using(crate::proofs::LittleEndian::std_bytes))]
     pub fn to_bytes(self) -> [u8; 20]
         ensures { result ≡ header_bytes self }

@@ -1,4 +1,4 @@
-// Numbers as bytes, least significant first.
+// Reads a number of four bytes, least significant first; header.rt writes them by std's to_le_bytes.
 ghost use Rattle.std.specs.Prelude.{◌≡◌, ◌+◌, ◌≤◌, length};
 ghost use Rattle.packet.specs.LittleEndian.{word};
 

@@ -1,6 +1,10 @@
 // The block reader in the Rust's handle_incoming_sacks: it keeps its payload and its place together. `next_at` does the work on a plain
-// slice and a number, and what holds a reader is thin over it. A loop takes a reader's blocks in turn; `moved`, `next` and `read_from` are
-// one step from a place of the caller's, as the theorems on calls state it (crate promise).
+// slice and a number, and what holds a reader is thin over it.
+//
+// There are two methods `next`. The one of Iterator takes `&mut self`, moves the reader past the block and returns the block alone: callers
+// loop over a reader (deliver_acks). The reader's own takes `self` by value and returns the block with the place after it; `reader.next()`
+// means this one. No caller needs it, nor `moved` and `read_from`: they are there because the theorems on the block reader (crates promise
+// and promise_sentences) speak of one read at any place.
 #![tactic(auto)]
 
 ghost use Rattle.std.specs.Prelude.{◌≡◌};
@@ -49,7 +53,7 @@ impl<'a> BlockReader<'a> {
         BlockReader { at, ..self }
     }
 
-    // The block at the reader's place, and the place after it.
+    // The block at the reader's place, and the place after it; the reader stays where it is.
     pub fn next(self) -> Next
         ensures { result ≡ read_at self.entry.payload.now self.entry.at }
     {
@@ -57,6 +61,7 @@ impl<'a> BlockReader<'a> {
     }
 }
 
+// The blocks in turn, as a loop takes them.
 impl<'a> Iterator for BlockReader<'a> {
     type Item = Block;
 

@@ -1,9 +1,12 @@
 -- How the queue is laid out: the test `formed_queue` is equivalent to the facts `QueueFormed`, and pushing an entry, ending a drive and
 -- taking entries keep them. Only the number of state packets needs more than arithmetic.
-use Rattle.std.proofs.Common.{◌≡◌, ℕ, ◌+◌, ◌-◌, ◌<◌, true, false, List, [], ◌∷◌, ◌++◌, length, take, drop, set, sym, refl, ap, ◌∙◌, add-one, arith, take-append-drop, take-suc-set}
+use Rattle.std.proofs.Common.{◌≡◌, ℕ, ◌+◌, ◌-◌, ◌<◌, true, List, [], ◌∷◌, ◌++◌, length, take, drop, set, sym, refl, ap, ◌∙◌, add-one, arith, take-append-drop, take-suc-set}
+use Rattle.records_words.specs.declared.QueuedPacket.{QueuedPacket}
 use Rattle.records_words.specs.declared.Entry.{Entry}
+use Rattle.records_words.specs.declared.Entry.TheVariants.{State, Packet}
 use Rattle.records.specs.declared.Queue.{Queue}
 use Rattle.records_words.specs.Words.{entry_of, entry_word}
+use Rattle.records_words.proofs.WordLaws.{state_back}
 use Rattle.records.specs.Seen.{entry_words, state_words, formed_queue, QueueFormed}
 use Rattle.records.proofs.SeenQueue.{words_append, words_rest, words_pushed, words_drive, words_take}
 
@@ -17,14 +20,14 @@ module _ (q : Queue) (words : List ℕ) where
   queue_says e = grind arith
 
 -- one state packet, or none
-one_state : (w : ℕ) (x : Entry) → entry_of w ≡ x → x.state ≡ true → state_words (w ∷ []) ≡ 1
-one_state w x e s = rw (e, s) refl
+one_state : (w : ℕ) → entry_of w ≡ State → state_words (w ∷ []) ≡ 1
+one_state w e = rw e refl
 
-no_state : (w : ℕ) (x : Entry) → entry_of w ≡ x → x.state ≡ false → state_words (w ∷ []) ≡ 0
-no_state w x e s = rw (e, s) refl
+no_state : (w : ℕ) (x : QueuedPacket) → entry_of w ≡ Packet x → state_words (w ∷ []) ≡ 0
+no_state w x e = rw e refl
 
 module _ (q q' : Queue) (words : List ℕ) (f : QueueFormed q words) where
-  module _ (room : q.count < length words) (less : q.count < 128) (x : Entry) (back : entry_of (entry_word x) ≡ x) (rest : q.left ≡ 0) (rest' : q'.left ≡ 0)
+  module _ (room : q.count < length words) (x : Entry) (back : entry_of (entry_word x) ≡ x) (rest : q.left ≡ 0) (rest' : q'.left ≡ 0)
       (more : q'.count ≡ q.count + 1) (gone : q'.gone ≡ q.gone) where
     counted : state_words (entry_words q' (set words q.count (entry_word x))) ≡ state_words (entry_words q words) + state_words (entry_word x ∷ [])
     counted =
@@ -33,10 +36,11 @@ module _ (q q' : Queue) (words : List ℕ) (f : QueueFormed q words) where
         ∙ ap (λ (l : List ℕ). l ++ (entry_word x ∷ [])) (sym (words_rest q words rest)))
         ∙ words_append (entry_words q words) (entry_word x ∷ [])
 
-    pub formed_packet : x.state ≡ false → q'.states ≡ q.states → QueueFormed q' (set words q.count (entry_word x))
-    formed_packet e same =
-        let n = no_state (entry_word x) x back e in
-        let k = counted in
+  module _ (room : q.count < length words) (less : q.count < 128) (rest : q.left ≡ 0) (rest' : q'.left ≡ 0) (more : q'.count ≡ q.count + 1) (gone : q'.gone ≡ q.gone) where
+    pub formed_packet : (x : QueuedPacket) → entry_of (entry_word (Packet x)) ≡ Packet x → q'.states ≡ q.states → QueueFormed q' (set words q.count (entry_word (Packet x)))
+    formed_packet x back same =
+        let n = no_state (entry_word (Packet x)) x back in
+        let k = counted room (Packet x) back rest rest' more gone in
         let p = f.places in
         record {
           count = omega arith;
@@ -46,10 +50,10 @@ module _ (q q' : Queue) (words : List ℕ) (f : QueueFormed q words) where
           gone = λ z. gone ∙ f.gone rest;
         }
 
-    pub formed_state : x.state ≡ true → q'.states ≡ q.states + 1 → q.states < 64 → QueueFormed q' (set words q.count (entry_word x))
-    formed_state e next below =
-        let n = one_state (entry_word x) x back e in
-        let k = counted in
+    pub formed_state : q'.states ≡ q.states + 1 → q.states < 64 → QueueFormed q' (set words q.count (entry_word State))
+    formed_state next below =
+        let n = one_state (entry_word State) state_back in
+        let k = counted room State state_back rest rest' more gone in
         let p = f.places in
         record {
           count = omega arith;

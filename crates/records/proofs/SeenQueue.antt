@@ -6,60 +6,57 @@ use Rattle.model.specs.Lists.{Bytes}
 use Rattle.model.specs.Stream as model
 use Rattle.model.specs.Rules.{states}
 use Rattle.model.specs.Sending.{pushed}
+use Rattle.records_words.specs.declared.QueuedPacket.{QueuedPacket}
 use Rattle.records_words.specs.declared.Entry.{Entry}
+use Rattle.records_words.specs.declared.Entry.TheVariants.{State, Packet}
 use Rattle.records.specs.declared.Queue.{Queue}
 use Rattle.records_words.specs.Words.{entry_of, entry_word}
+use Rattle.records_words.proofs.WordLaws.{state_back}
 use Rattle.records.specs.Cut.{cut, header_slot}
 use Rattle.records.specs.Put.{put}
-use Rattle.records.specs.Seen.{entry_words, seen_entries, state_words, seen_queue}
+use Rattle.records.specs.Seen.{entry_words, entry_seen, place_after, seen_entries, state_words, seen_queue}
 use Rattle.records.proofs.Cut.{head_is, cut_same, cut_other}
 
 -- the entries of some words
 
 pub entries_length : (headers : Bytes) (place : ℕ) (words : List ℕ) → length (seen_entries headers place words) ≡ length words
 entries_length headers place [] = refl
-entries_length headers place (w ∷ ws) = go (entry_of w).state refl (entries_length headers place ws) (entries_length headers (suc place) ws)
-  where
-    go : (b : Bool) → (entry_of w).state ≡ b → length (seen_entries headers place ws) ≡ length ws → length (seen_entries headers (suc place) ws) ≡ length ws
-        → length (seen_entries headers place (w ∷ ws)) ≡ suc (length ws)
-    go true e p q = rw e (ap suc q)
-    go false e p q = rw e (ap suc p)
+entries_length headers place (w ∷ ws) = ap suc (entries_length headers (place_after place (entry_of w)) ws)
 
 -- the number of state packets does not depend on bytes or places
 states_same : (h h' : Bytes) (i j : ℕ) (words : List ℕ) → states (seen_entries h i words) ≡ states (seen_entries h' j words)
 states_same h h' i j [] = refl
-states_same h h' i j (w ∷ ws) = go (entry_of w).state refl (states_same h h' i j ws) (states_same h h' (suc i) (suc j) ws)
+states_same h h' i j (w ∷ ws) = go (entry_of w) refl (λ k l. states_same h h' k l ws)
   where
-    go : (b : Bool) → (entry_of w).state ≡ b → states (seen_entries h i ws) ≡ states (seen_entries h' j ws) → states (seen_entries h (suc i) ws) ≡ states (seen_entries h' (suc j) ws)
+    go : (x : Entry) → entry_of w ≡ x → ((k l : ℕ) → states (seen_entries h k ws) ≡ states (seen_entries h' l ws))
         → states (seen_entries h i (w ∷ ws)) ≡ states (seen_entries h' j (w ∷ ws))
-    go true e p q = rw e (ap suc q)
-    go false e p q = rw e p
+    go State e same = rw e (ap suc (same (suc i) (suc j)))
+    go (Packet x) e same = rw e (same i j)
 
 pub entries_states : (headers : Bytes) (place : ℕ) (words : List ℕ) → states (seen_entries headers place words) ≡ state_words words
 entries_states headers place words = states_same headers [] place 0 words
 
 -- a state packet first, or a packet's entry
-state_first : (w : ℕ) (ws : List ℕ) → (entry_of w).state ≡ true → state_words (w ∷ ws) ≡ suc (state_words ws)
+state_first : (w : ℕ) (ws : List ℕ) → entry_of w ≡ State → state_words (w ∷ ws) ≡ suc (state_words ws)
 state_first w ws e = rw e (ap suc (states_same [] [] 1 0 ws))
 
-packet_first : (w : ℕ) (ws : List ℕ) → (entry_of w).state ≡ false → state_words (w ∷ ws) ≡ state_words ws
-packet_first w ws e = rw e refl
+packet_first : (w : ℕ) (ws : List ℕ) (x : QueuedPacket) → entry_of w ≡ Packet x → state_words (w ∷ ws) ≡ state_words ws
+packet_first w ws x e = rw e refl
+
+-- the place after a first entry and the rest
+at_next : (place w : ℕ) (ws : List ℕ) → place + state_words (w ∷ ws) ≡ place_after place (entry_of w) + state_words ws
+at_next place w ws = go (entry_of w) refl
+  where
+    go : (x : Entry) → entry_of w ≡ x → place + state_words (w ∷ ws) ≡ place_after place (entry_of w) + state_words ws
+    go State e = rw e (omega (arith, states_same [] [] 1 0 ws))
+    go (Packet x) e = rw e refl
 
 pub entries_append : (headers : Bytes) (place : ℕ) (words more : List ℕ)
     → seen_entries headers place (words ++ more) ≡ seen_entries headers place words ++ seen_entries headers (place + state_words words) more
 entries_append headers place [] more = ap (λ (i : ℕ). seen_entries headers i more) (let e : place ≡ place + 0 = omega arith in e)
-entries_append headers place (w ∷ ws) more = go (entry_of w).state refl (entries_append headers place ws more) (entries_append headers (suc place) ws more)
-  where
-    Joins : ℕ → List ℕ → Type 0
-    Joins i l = seen_entries headers i (l ++ more) ≡ seen_entries headers i l ++ seen_entries headers (i + state_words l) more
-
-    go : (b : Bool) → (entry_of w).state ≡ b → Joins place ws → Joins (suc place) ws → Joins place (w ∷ ws)
-    go true e p q =
-        let at : place + state_words (w ∷ ws) ≡ suc place + state_words ws = omega (arith, state_first w ws e) in
-        rw (at, e) (ap (λ (l : List model.Entry). model.state (cut header_slot headers place 20) ∷ l) q)
-    go false e p q =
-        let at : place + state_words (w ∷ ws) ≡ place + state_words ws = ap (λ (k : ℕ). place + k) (packet_first w ws e) in
-        rw (at, e) (ap (λ (l : List model.Entry). model.packet (entry_of w).number (entry_of w).length ∷ l) p)
+entries_append headers place (w ∷ ws) more =
+    ap (λ (l : List model.Entry). entry_seen headers place (entry_of w) ∷ l) (entries_append headers (place_after place (entry_of w)) ws more
+    ∙ ap (λ (i : ℕ). seen_entries headers (place_after place (entry_of w)) ws ++ seen_entries headers i more) (sym (at_next place w ws)))
 
 states_append : (a b : List model.Entry) → states (a ++ b) ≡ states a + states b
 states_append [] b = omega arith
@@ -75,18 +72,19 @@ words_append words more =
 pub entries_same : (h h' : Bytes) (place : ℕ) (words : List ℕ)
     → ((i : ℕ) → place ≤ i → i < place + state_words words → cut header_slot h i 20 ≡ cut header_slot h' i 20) → seen_entries h place words ≡ seen_entries h' place words
 entries_same h h' place [] f = refl
-entries_same h h' place (w ∷ ws) f = go (entry_of w).state refl (entries_same h h' place ws) (entries_same h h' (suc place) ws) f
+entries_same h h' place (w ∷ ws) f = go (entry_of w) refl (λ i. entries_same h h' i ws)
   where
-    Same : ℕ → List ℕ → Type 0
-    Same i l = ((j : ℕ) → i ≤ j → j < i + state_words l → cut header_slot h j 20 ≡ cut header_slot h' j 20) → seen_entries h i l ≡ seen_entries h' i l
+    Same : ℕ → Type 0
+    Same i = ((j : ℕ) → i ≤ j → j < i + state_words ws → cut header_slot h j 20 ≡ cut header_slot h' j 20) → seen_entries h i ws ≡ seen_entries h' i ws
 
-    go : (b : Bool) → (entry_of w).state ≡ b → Same place ws → Same (suc place) ws → Same place (w ∷ ws)
-    go true e p q f =
+    go : (x : Entry) → entry_of w ≡ x → ((i : ℕ) → Same i) → seen_entries h place (w ∷ ws) ≡ seen_entries h' place (w ∷ ws)
+    go State e same =
         let n = state_first w ws e in
-        rw e (ap₂ (λ (x : Bytes) (l : List model.Entry). model.state x ∷ l) (f place (omega arith) (omega arith)) (q (λ j a b. f j (omega arith) (omega arith))))
-    go false e p q f =
-        let n = packet_first w ws e in
-        rw e (ap (λ (l : List model.Entry). model.packet (entry_of w).number (entry_of w).length ∷ l) (p (λ j a b. f j a (omega arith))))
+        rw e (ap₂ (λ (x : Bytes) (l : List model.Entry). model.state x ∷ l) (f place (omega arith) (omega arith))
+        (same (suc place) (λ j a b. f j (omega arith) (omega arith))))
+    go (Packet x) e same =
+        let n = packet_first w ws x e in
+        rw e (ap (λ (l : List model.Entry). model.packet x.number x.length ∷ l) (same place (λ j a b. f j a (omega arith))))
 
 -- splitting entries off the front
 
@@ -105,31 +103,28 @@ module _ (headers : Bytes) (place k : ℕ) (words : List ℕ) (l : k ≤ length 
 
 -- one more entry at the end
 
-entry_packet : (headers : Bytes) (place w : ℕ) (x : Entry) → entry_of w ≡ x → x.state ≡ false → seen_entries headers place (w ∷ []) ≡ model.packet x.number x.length ∷ []
-entry_packet headers place w x e s = rw (e, s) refl
-
-entry_state : (headers : Bytes) (place w : ℕ) (x : Entry) → entry_of w ≡ x → x.state ≡ true → seen_entries headers place (w ∷ []) ≡ model.state (cut header_slot headers place 20) ∷ []
-entry_state headers place w x e s = rw (e, s) refl
+entry_alone : (headers : Bytes) (place w : ℕ) (x : Entry) → entry_of w ≡ x → seen_entries headers place (w ∷ []) ≡ entry_seen headers place x ∷ []
+entry_alone headers place w x e = rw e refl
 
 module _ (words : List ℕ) (count : ℕ) (room : count < length words) (x : Entry) (back : entry_of (entry_word x) ≡ x) where
-  pub push_packet : (headers : Bytes) (place : ℕ) → x.state ≡ false
-      → seen_entries headers place (take (count + 1) (set words count (entry_word x))) ≡ seen_entries headers place (take count words) ++ (model.packet x.number x.length ∷ [])
-  push_packet headers place e =
+  pub push_entry : (headers : Bytes) (place : ℕ)
+      → seen_entries headers place (take (count + 1) (set words count (entry_word x)))
+      ≡ seen_entries headers place (take count words) ++ (entry_seen headers (place + state_words (take count words)) x ∷ [])
+  push_entry headers place =
       rw (add-one, take-suc-set words count (entry_word x) room) (entries_append headers place (take count words) (entry_word x ∷ [])
-      ∙ ap (λ (l : List model.Entry). seen_entries headers place (take count words) ++ l) (entry_packet headers (place + state_words (take count words)) (entry_word x) x back e))
+      ∙ ap (λ (l : List model.Entry). seen_entries headers place (take count words) ++ l) (entry_alone headers (place + state_words (take count words)) (entry_word x) x back))
 
-  -- a state packet, its bytes at the place after the others
-  pub push_state : (headers bytes : Bytes) (place next : ℕ) → x.state ≡ true → next ≡ place + state_words (take count words) → length bytes ≡ 20 → next * 20 + 20 ≤ length headers
-      → seen_entries (put headers (next * 20) bytes) place (take (count + 1) (set words count (entry_word x)))
+-- a state packet, its bytes at the place after the others
+module _ (words : List ℕ) (count : ℕ) (room : count < length words) where
+  pub push_state : (headers bytes : Bytes) (place next : ℕ) → next ≡ place + state_words (take count words) → length bytes ≡ 20 → next * 20 + 20 ≤ length headers
+      → seen_entries (put headers (next * 20) bytes) place (take (count + 1) (set words count (entry_word State)))
       ≡ seen_entries headers place (take count words) ++ (model.state bytes ∷ [])
-  push_state headers bytes place next e at long fits =
-      ap (λ (z : ℕ). seen_entries (put headers (next * z) bytes) place (take (count + 1) (set words count (entry_word x)))) (sym head_is)
-      ∙ rw (add-one, take-suc-set words count (entry_word x) room)
-      (entries_append headers' place (take count words) (entry_word x ∷ [])
+  push_state headers bytes place next at long fits =
+      ap (λ (z : ℕ). seen_entries (put headers (next * z) bytes) place (take (count + 1) (set words count (entry_word State)))) (sym head_is)
+      ∙ push_entry words count room State state_back headers' place
       ∙ ap₂ ◌++◌ (entries_same headers' headers place (take count words) (λ i a b. cut_other header_slot headers bytes next short fits' i 20 (λ q. omega arith)))
-      (ap (λ (i : ℕ). seen_entries headers' i (entry_word x ∷ [])) (sym at)
-      ∙ entry_state headers' next (entry_word x) x back e
-      ∙ ap (λ (b : Bytes). model.state b ∷ []) (ap (cut header_slot headers' next) (sym long) ∙ cut_same header_slot headers bytes next short fits')))
+      (ap (λ (i : ℕ). entry_seen headers' i State ∷ []) (sym at)
+      ∙ ap (λ (b : Bytes). model.state b ∷ []) (ap (cut header_slot headers' next) (sym long) ∙ cut_same header_slot headers bytes next short fits'))
     where
       headers' : Bytes
       headers' = put headers (next * header_slot) bytes
@@ -168,20 +163,21 @@ module _ (q q' : Queue) (words : List ℕ) where
     pub words_pushed : entry_words q' (set words q.count (entry_word x)) ≡ take (q.count + 1) (set words q.count (entry_word x))
     words_pushed = words_rest q' (set words q.count (entry_word x)) rest' ∙ ap (λ (k : ℕ). take k (set words q.count (entry_word x))) more
 
-    pub queue_packet : (headers : Bytes) → x.state ≡ false
-        → seen_queue q' (set words q.count (entry_word x)) headers ≡ pushed (model.packet x.number x.length) (seen_queue q words headers)
+  module _ (room : q.count < length words) (rest : q.left ≡ 0) (rest' : q'.left ≡ 0) (more : q'.count ≡ q.count + 1) (gone : q'.gone ≡ q.gone) where
+    pub queue_packet : (x : QueuedPacket) → entry_of (entry_word (Packet x)) ≡ Packet x → (headers : Bytes)
+        → seen_queue q' (set words q.count (entry_word (Packet x))) headers ≡ pushed (model.packet x.number x.length) (seen_queue q words headers)
     unfolding seen_queue
-    queue_packet headers e =
-        rw (words_pushed, words_rest q words rest, gone, rest, rest') (ap (λ (l : List model.Entry). record { entries = l; left = 0 }) (push_packet words q.count room x back headers q.gone e))
+    queue_packet x back headers =
+        rw (words_pushed room (Packet x) back rest rest' more gone, words_rest q words rest, gone, rest, rest')
+        (ap (λ (l : List model.Entry). record { entries = l; left = 0 }) (push_entry words q.count room (Packet x) back headers q.gone))
 
-    pub queue_state : (headers bytes : Bytes) → x.state ≡ true → q.states ≡ q.gone + state_words (entry_words q words) → length bytes ≡ 20
-        → q.states * 20 + 20 ≤ length headers
-        → seen_queue q' (set words q.count (entry_word x)) (put headers (q.states * 20) bytes) ≡ pushed (model.state bytes) (seen_queue q words headers)
+    pub queue_state : (headers bytes : Bytes) → q.states ≡ q.gone + state_words (entry_words q words) → length bytes ≡ 20 → q.states * 20 + 20 ≤ length headers
+        → seen_queue q' (set words q.count (entry_word State)) (put headers (q.states * 20) bytes) ≡ pushed (model.state bytes) (seen_queue q words headers)
     unfolding seen_queue
-    queue_state headers bytes e places long fits =
+    queue_state headers bytes places long fits =
         let places' : q.states ≡ q.gone + state_words (take q.count words) = places ∙ ap (λ (l : List ℕ). q.gone + state_words l) (words_rest q words rest) in
-        rw (words_pushed, words_rest q words rest, gone, rest, rest')
-        (ap (λ (l : List model.Entry). record { entries = l; left = 0 }) (push_state words q.count room x back headers bytes q.gone q.states e places' long fits))
+        rw (words_pushed room State state_back rest rest' more gone, words_rest q words rest, gone, rest, rest')
+        (ap (λ (l : List model.Entry). record { entries = l; left = 0 }) (push_state words q.count room headers bytes q.gone q.states places' long fits))
 
   -- a drive ends: all entries are left to take
   pub words_drive : q.left ≡ 0 → q'.count ≡ q.count → q'.left ≡ q.count → entry_words q' words ≡ entry_words q words

@@ -10,6 +10,8 @@ use Rattle.model.specs.Stream as model
 use Rattle.model.specs.Rules.{states}
 use Rattle.records_words.specs.declared.Sent.{Sent}
 use Rattle.records_words.specs.declared.Held.{Held}
+use Rattle.records_words.specs.declared.Entry.{Entry}
+use Rattle.records_words.specs.declared.Entry.TheVariants.{State, Packet}
 use Rattle.records.specs.declared.Sender.{Sender}
 use Rattle.records.specs.declared.Receiver.{Receiver}
 use Rattle.records.specs.declared.Queue.{Queue}
@@ -73,12 +75,20 @@ first_entry q = cond (q.left == 0) 0 (q.count - q.left)
 unfoldable pub entry_words : Queue → List ℕ → List ℕ
 entry_words q words = drop (first_entry q) (take q.count words)
 
+-- an entry in the model; a state packet's bytes are at `place` in the header store
+abbrev pub entry_seen : Bytes → (place : ℕ) → Entry → model.Entry
+entry_seen headers place State = model.state (cut header_slot headers place 20)
+entry_seen headers place (Packet x) = model.packet x.number x.length
+
+-- the place of the next state packet after an entry
+abbrev pub place_after : (place : ℕ) → Entry → ℕ
+place_after place State = suc place
+place_after place (Packet x) = place
+
 -- the entries of some words; `place` is the first state packet's place
 abbrev pub seen_entries : Bytes → ℕ → List ℕ → List model.Entry
 seen_entries headers place [] = []
-seen_entries headers place (w ∷ ws) =
-    cond (entry_of w).state (model.state (cut header_slot headers place 20) ∷ seen_entries headers (suc place) ws)
-    (model.packet (entry_of w).number (entry_of w).length ∷ seen_entries headers place ws)
+seen_entries headers place (w ∷ ws) = entry_seen headers place (entry_of w) ∷ seen_entries headers (place_after place (entry_of w)) ws
 
 -- the number of state packets among some words
 abbrev pub state_words : List ℕ → ℕ

@@ -1,15 +1,22 @@
 // The records of a stream: its numbers by value, grouped as in the model; its packets and its queue as words of lent arrays; the bytes in
 // three lent stores. specs/Seen.antt defines what they mean.
+//
+// No struct of the engine holds the words and stores. C lends each by a pointer of its own, and a call writes some and only reads the others: a function
+// takes each as `&mut` or as `&`, so that its type says which of them it leaves as they were. One struct would be lent as a whole to be
+// written, and every contract would have to promise the rest unchanged. The words are arrays for the most there can be: there is no heap.
 #![tactic(auto)]
 
 pub mod open;
 
+ghost use Rattle.std.specs.Prelude.{◌≡◌, ◌+◌, leb};
+
 use error::UdxError;
-pub use open::Opened;
+pub use open::{Opened, stores_differ};
 pub use records_places::slot;
 pub use records_words::{
-    Entry, Held, Sent, clear_held, clear_sent, get_entry, get_held, get_sent, is_held, is_short,
-    is_sized, is_stored, put_entry, put_held, put_sent, same_packet,
+    Entry, Held, QueuedPacket, Sent, clear_held, clear_sent, find_held, find_sent, get_entry,
+    get_held, get_sent, is_held, is_short, is_sized, is_stored, put_entry, put_held, put_sent,
+    same_packet,
 };
 use rtt::{Nanos, Rtt};
 
@@ -27,12 +34,19 @@ pub struct Sender {
     pub seq: u32,
     // Every packet below it has been settled; seq is at most 32 past it.
     pub remote_acked: u32,
-    // The largest ack delivered since the last drive, at most seq.
+    // The largest ack delivered since the last drive, at most seq; 0 without one, which settles nothing.
     pub largest_ack: u32,
     // Bytes of the stored packets that are not waiting.
     pub inflight: u32,
     // The congestion window, 1,400 or more.
     pub cwnd: u32,
+}
+
+// Whether `bytes` more bytes fit the window; by a difference, because the sum could wrap.
+pub fn fits(inflight: u32, bytes: u32, cwnd: u32) -> bool
+    ensures { result ≡ leb (inflight + bytes) cwnd }
+{
+    inflight <= cwnd && bytes <= cwnd - inflight
 }
 
 #[derive(Clone, Copy, Default)]
@@ -81,10 +95,12 @@ pub struct Ending {
     // None while the stream runs.
     pub error: Option<UdxError>,
     pub state: StreamState,
-    // A drive has answered done.
+    // A drive has answered done. A flag, since done changes neither error nor state.
     pub ended: bool,
 }
 
+// The parts of a call that add to its clock say in their contracts that it is below 2^60, as refusal 4 has tested. A type with that bound
+// would not do for the two instants here: in records that a caller lends they may be any number.
 #[derive(Clone, Copy)]
 pub struct Clocks {
     // Of the last accepted call with a clock, below 2^60.
@@ -93,6 +109,8 @@ pub struct Clocks {
     pub drive: Nanos,
 }
 
+// Its numbers may break any rule, since refusal 1 must be able to see that. So no field has an invariant, and each part of a call states in
+// its contract what it needs.
 #[derive(Clone, Copy)]
 pub struct Stream {
     pub ids: Ids,
@@ -116,7 +134,8 @@ pub struct Totals {
     pub inflight_bytes: u64,
 }
 
-// The stream and totals after one part of a call. Parameters have the two apart, since a caller may lend its totals (udx_lent).
+// The stream and totals after one part of a call, in the one value that a function returns. As parameters the two stay apart: the calls get
+// them so, and a part may get a stream that has changed with totals that have not.
 #[derive(Clone, Copy)]
 pub struct StreamAndTotals {
     pub stream: Stream,

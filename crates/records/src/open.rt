@@ -1,6 +1,6 @@
 // Opening a stream (UdxStream::connect).
 ghost use Rattle.std.specs.Prelude.{◌≡◌};
-ghost use Rattle.records.specs.Open.{Opens, fresh_stream, refused_open};
+ghost use Rattle.records.specs.Open.{Opens, fresh_stream, refused_open, stores_test};
 
 use crate::{
     Clocks, Deadline, Ending, Ids, Queue, Receiver, Sender, Stream, StreamState, Timing, Totals,
@@ -11,6 +11,7 @@ use constants::{
 use error::{Outcome, Refusal};
 use rtt::{Nanos, Rtt};
 
+// What open answers. With a refusal there are a stream and totals as well, since C gets them either way.
 #[derive(Clone, Copy)]
 pub struct Opened {
     pub outcome: Result<Outcome, Refusal>,
@@ -65,6 +66,15 @@ fn refused_open(why: Refusal) -> Opened
     }
 }
 
+// "A lent store has another length than above"
+pub fn stores_differ(outgoing: &[u8], incoming: &[u8], headers: &[u8]) -> bool
+    ensures { result ≡ stores_test outgoing.now incoming.now headers.now }
+{
+    outgoing.len() != OUTGOING_STORE
+        || incoming.len() != INCOMING_STORE
+        || headers.len() != HEADER_STORE
+}
+
 // Opens a stream over lent stores. Only their lengths are checked; the contents of stores and words do not matter.
 #[tactic(auto, unfolding(crate::specs::Open::open_why))]
 pub fn open(
@@ -79,16 +89,13 @@ pub fn open(
     ensures { Opens local remote segments clock.0 outgoing.now incoming.now
         headers.now result }
 {
-    if outgoing.len() != OUTGOING_STORE
-        || incoming.len() != INCOMING_STORE
-        || headers.len() != HEADER_STORE
-    {
+    if stores_differ(outgoing, incoming, headers) {
         return refused_open(Refusal::BrokenRecords);
     }
     if segments < 1 || MAX_SEGMENTS < segments {
         return refused_open(Refusal::SegmentCeiling);
     }
-    if CLOCK_END <= clock.0 {
+    if Nanos(CLOCK_END) <= clock {
         return refused_open(Refusal::BadClock);
     }
     Opened {

@@ -12,6 +12,8 @@ pub fn slot(n: u32) -> usize
     (n % STORE_SLOTS) as usize
 }
 
+// The places in the three stores are a line each, over the store's own size: one function of the size would be no plainer.
+
 // The first byte of packet n in the outgoing store: "32 slots of 1,400 bytes".
 pub fn stored_at(n: u32) -> usize
     ensures { result ≡ n % 32 * 1_400 }

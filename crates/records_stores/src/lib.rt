@@ -1,5 +1,6 @@
 // The three lent byte stores: a packet's bytes are put and found by its number, a state packet's by its place. Callers know no offsets.
-// A store is a plain slice, since callers lend any and refusal 1 tests its length; a type for that length would ask more of them.
+// A store is a plain slice, since callers lend any and refusal 1 tests its length; a type for that length would ask more of them. The three
+// have functions of their own, a line or two each: a generic one would be no plainer.
 #![tactic(auto)]
 
 ghost use Rattle.std.specs.Prelude.{◌≡◌, ◌++◌, ◌+◌, ◌-◌, ◌*◌, ◌%◌, ◌≤◌, ◌<◌, length, take, drop};

@@ -4,8 +4,10 @@
 //   sent[i]          number * 2^32 + length * 64 + transmits * 2 + waiting, of the packet in slot i of the outgoing store
 //   sent[SLOTS + i]  its time sent + 1, or 0 for none
 //   held[i]          number * 2^32 + (length + 1) * 2^16 + offset, of the packet in slot i of the incoming store
-//   queue[i]         number * 2^32 + length * 64 + state
+//   queue[i]         number * 2^32 + length * 64 of a packet; 20 * 64 + 1 is written for a state packet, and any word with its lowest
+//                    bit set is read as one
 //
+// 0 means no packet, and no time sent: the words are lent by C, and their layout is fixed.
 // Number and length occupy the same bits in a packet's word and in its queue entry, so one comparison checks both.
 // A packet's slot is its number mod the number of slots. A word with another number, or with 0 in the length field, is not that packet.
 #![tactic(auto)]
@@ -23,11 +25,14 @@ ghost use Rattle.records_words.specs.Words.{
   is_held,
   is_short,
   entry_of,
+  found_sent,
+  found_held,
   entry_word,
+  high,
   same_packet,
 };
 
-use constants::{HELD_WORDS, QUEUE_WORDS, SENT_WORDS, STORE_SLOTS};
+use constants::{HELD_WORDS, QUEUE_WORDS, SENT_WORDS, STORE_SLOTS, UDX_HEADER_SIZE};
 use records_places::slot;
 use rtt::Nanos;
 
@@ -40,12 +45,13 @@ pub struct Sent {
     // Bytes, header included; 0 where there is no packet.
     pub length: u32,
     pub transmits: u32,
+    // Considered lost, and not queued again yet. A flag: the packet is stored either way.
     pub waiting: bool,
     // The clock of the drive before it was last taken; None until it is first taken.
     pub sent_at: Option<Nanos>,
 }
 
-// A packet of the incoming store.
+// A packet of the incoming store, as its slot has it: refusal 1's pass looks into empty slots too.
 #[derive(Clone, Copy)]
 pub struct Held {
     pub number: u32,
@@ -54,12 +60,19 @@ pub struct Held {
     pub offset: u32,
 }
 
-// A queue entry: a stored packet's number and length, or a state packet.
+// A packet's entry: its number, and its length when it was queued. The packet itself may have left.
 #[derive(Clone, Copy)]
-pub struct Entry {
+pub struct QueuedPacket {
     pub number: u32,
+    // Bytes, header included.
     pub length: u32,
-    pub state: bool,
+}
+
+// A queue entry. A state packet is a bare header, which waits in the header store.
+#[derive(Clone, Copy)]
+pub enum Entry {
+    State,
+    Packet(QueuedPacket),
 }
 
 // The upper and the lower 32 bits of a word.
@@ -81,8 +94,12 @@ fn word(number: u32, rest: u32) -> u64
     ((number as u64) << 32) | rest as u64
 }
 
+// Stored packets, held packets and entries have their own functions, a line or two each over their own words: a generic one would need a
+// trait for the three layouts, and be no plainer.
+
 // stored packets
 
+// A function and no From impl, here and below: an impl would be public, and this crate alone knows the bits.
 #[tactic(auto, unfolding(crate::specs::Words::sent_of))]
 fn sent_of(w: u64, time: u64) -> Sent
     ensures { result ≡ sent_of w time }
@@ -110,6 +127,14 @@ pub fn is_stored(p: Sent, n: u32) -> bool
     ensures { result ≡ is_stored p n }
 {
     p.length != 0 && p.number == n
+}
+
+// Packet n, if its slot holds it.
+pub fn find_sent(sent: &[u64; SENT_WORDS], n: u32) -> Option<Sent>
+    ensures { result ≡ found_sent sent.now n }
+{
+    let p = get_sent(sent, n);
+    if is_stored(p, n) { Some(p) } else { None }
 }
 
 // Whether the slot of number n holds packet n with a length from least to most.
@@ -184,6 +209,14 @@ pub fn is_held(p: Held, n: u32) -> bool
     p.past != 0 && p.number == n
 }
 
+// Packet n, if its slot holds it.
+pub fn find_held(held: &[u64; HELD_WORDS], n: u32) -> Option<Held>
+    ensures { result ≡ found_held held.now n }
+{
+    let p = get_held(held, n);
+    if is_held(p, n) { Some(p) } else { None }
+}
+
 // Whether the slot of number n holds packet n with at most `most` bytes.
 #[tactic(auto, unfolding(crate::specs::Words::held_of))]
 pub fn is_short(held: &[u64; HELD_WORDS], n: u32, most: u32) -> bool
@@ -222,13 +255,16 @@ fn entry_of(w: u64) -> Entry
     ensures { result ≡ entry_of w }
 {
     let rest = low(w);
-    Entry {
+    if rest % 2 == 1 {
+        return Entry::State;
+    }
+    Entry::Packet(QueuedPacket {
         number: high(w),
         length: rest / 64,
-        state: rest % 2 == 1,
-    }
+    })
 }
 
+// Entry i. The bound is the array's own: whether the queue has an entry there is the caller's to know.
 pub fn get_entry(queue: &[u64; QUEUE_WORDS], i: usize) -> Entry
     requires { i < 128 }
     ensures { result ≡ entry_of (slice_index queue.now i) }
@@ -237,11 +273,11 @@ pub fn get_entry(queue: &[u64; QUEUE_WORDS], i: usize) -> Entry
 }
 
 // Whether the word in the slot of entry i's number has that number and length.
-#[tactic(auto, unfolding(crate::specs::Words::sent_of, crate::specs::Words::entry_of))]
+#[tactic(auto, unfolding(crate::specs::Words::sent_of))]
 pub fn same_packet(queue: &[u64; QUEUE_WORDS], i: usize, sent: &[u64; SENT_WORDS]) -> bool
     requires { i < 128 }
-    ensures { result ≡ same_packet (sent_in sent.now ((entry_of (slice_index queue.now i)).number % 32))
-        (entry_of (slice_index queue.now i)) }
+    ensures { result ≡ same_packet (sent_in sent.now (high (slice_index queue.now i) % 32))
+        (slice_index queue.now i) }
 {
     let w = queue[i];
     sent[slot(high(w))] / 64 == w / 64
@@ -251,7 +287,10 @@ pub fn same_packet(queue: &[u64; QUEUE_WORDS], i: usize, sent: &[u64; SENT_WORDS
 fn entry_word(x: Entry) -> u64
     ensures { result ≡ entry_word x }
 {
-    word(x.number, x.length % 65_536 * 64 + x.state as u32)
+    match x {
+        Entry::State => UDX_HEADER_SIZE as u64 * 64 + 1,
+        Entry::Packet(p) => word(p.number, p.length % 65_536 * 64),
+    }
 }
 
 pub fn put_entry(queue: &mut [u64; QUEUE_WORDS], i: usize, x: Entry)

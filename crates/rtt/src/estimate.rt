@@ -7,7 +7,8 @@ use constants::{RTO_MIN, UDX_CLOCK_GRANULARITY};
 
 #[derive(Clone, Copy)]
 pub struct Rtt {
-    // 0 until the first sample; below 2^60.
+    // Below 2^60. 0 until the first sample, and after samples of 0. 01 tests the number ("while srtt is 0"): an Option would answer
+    // otherwise.
     pub srtt: Nanos,
     // Below 2^60.
     pub rttvar: Nanos,

@@ -2,7 +2,8 @@
 ghost use Rattle.std.specs.Prelude.{◌≡◌};
 ghost use Rattle.rtt.specs.Estimate.{apart};
 
-// An instant or a span in nanoseconds: a type of its own, so that no packet number is ever added to one.
+// An instant or a span in nanoseconds: a type of its own, so that no packet number is ever added to one. It has no `Add`: each sum has its
+// own reason not to wrap, in the contract of the function that takes it.
 #[derive(Clone, Copy, PartialEq, Eq, PartialOrd, Ord)]
 pub struct Nanos(pub u64);
 
