@@ -1,23 +1,12 @@
-// Refusal 1: whether a call is lent stores of 01's lengths and records that keep every rule.
+// Refusal 1: whether a call is lent stores of 01's lengths and records that keep every rule. Everything is lent read-only here,
+// even what the call may write later.
 #![tactic(auto)]
 
 ghost use Rattle.std.specs.Prelude.{◌≡◌, length};
-ghost use Rattle.records.specs.Open.{stores_test};
 ghost use Rattle.rules_lent.specs.Broken.{broken_records, lent};
 
-use constants::{
-    HEADER_STORE, HELD_WORDS, INCOMING_STORE, OUTGOING_STORE, QUEUE_WORDS, SENT_WORDS,
-};
+use constants::{HELD_WORDS, QUEUE_WORDS, SENT_WORDS};
 use records::{Stream, Totals};
-
-// "A lent store has another length than above"
-fn stores_differ(outgoing: &[u8], incoming: &[u8], headers: &[u8]) -> bool
-    ensures { result ≡ stores_test outgoing.now incoming.now headers.now }
-{
-    outgoing.len() != OUTGOING_STORE
-        || incoming.len() != INCOMING_STORE
-        || headers.len() != HEADER_STORE
-}
 
 // Refusal 1: "A lent store has another length than above, or a rule of the records is broken"
 pub fn broken(
@@ -35,5 +24,6 @@ pub fn broken(
         incoming.now headers.now))
         × (length queue.now ≡ 128) }
 {
-    stores_differ(outgoing, incoming, headers) || !rules_stream::ok_stream(s, t, sent, held, queue)
+    records::stores_differ(outgoing, incoming, headers)
+        || !rules_stream::ok_stream(s, t, sent, held, queue)
 }

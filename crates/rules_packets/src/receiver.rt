@@ -36,6 +36,6 @@ pub fn ok_receiver(r: Receiver, held: &[u64; HELD_WORDS]) -> bool
     }
     let kept = all_held(r.read_cursor, r.top, held);
     // "read cursor ≤ ack ≤ read cursor + 32"
-    let cursor = r.read_cursor <= r.ack && r.ack as u64 <= far;
-    cursor && r.read_cursor <= r.top && kept
+    let ack_in_range = r.read_cursor <= r.ack && r.ack as u64 <= far;
+    ack_in_range && r.read_cursor <= r.top && kept
 }

@@ -22,7 +22,8 @@ fn in_time(p: Sent, clock: Nanos) -> bool
     p.sent_at.is_none_or(|t| t <= clock)
 }
 
-// Checks and sums the stored packets, which are from acked to below seq, each in the slot of its number. None: one breaks a rule.
+// Checks and sums the stored packets, which are from acked to below seq, each in the slot of its number. None: one breaks a rule. Of the
+// sender the pass reads only the two numbers.
 fn stored(acked: u32, seq: u32, clock: Nanos, sent: &[u64; SENT_WORDS]) -> Option<Sums>
     requires { seq ≤ acked + 32 }
     ensures { result ≡ stored_sums acked seq clock.0 sent.now }
@@ -32,6 +33,7 @@ fn stored(acked: u32, seq: u32, clock: Nanos, sent: &[u64; SENT_WORDS]) -> Optio
     let mut lengths: u64 = 0;
     for n in acked..seq {
         let p = records::get_sent(sent, n);
+        // Not find_sent: no branch here.
         let here = records::is_stored(p, n);
         // "lengths are 21 to 1,400 stored"
         let sized = records::is_sized(sent, n, 21, UDX_MTU);

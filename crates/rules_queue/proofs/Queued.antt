@@ -6,15 +6,17 @@ use mathlib.Core.List.{List, [], ◌∷◌}
 use mathlib.Core.Option.{none, some}
 use mathlib.Core.Bool.{Bool, true, false, cond, ◌&&◌, and_assoc}
 use lib.Dec.{leb, ltb, eqb}
-use lib.ListN.{length, take, drop}
+use lib.ListN.{length, take, drop, length-append}
 use lib.Seq.{length-slice}
 use borrow.Author.Tests.{le-leb}
 use Rattle.model.specs.Rules.{distinct, every}
+use Rattle.records_words.specs.declared.Entry.{Entry}
+use Rattle.records_words.specs.declared.Entry.TheVariants.{State, Packet}
 use Rattle.records.specs.declared.Sender.{Sender}
 use Rattle.records.specs.declared.Queue.{Queue}
 use Rattle.records_words.specs.Words.{sent_in, is_stored, entry_of}
 use Rattle.records.specs.Seen.{first_entry, entry_words}
-use Rattle.rules_queue.specs.Entries.{same_length, entry_ok, state_count, packet_numbers, places_ok, ok_queue}
+use Rattle.rules_queue.specs.Entries.{same_length, entry_ok, states_of, numbers_of, state_count, packet_numbers, places_ok, ok_queue}
 use Rattle.rules_queue.specs.Passes.{known, entry_rule, EntriesPassed}
 
 -- one entry
@@ -23,9 +25,9 @@ same_is : (there : Bool) (l k : ℕ) → cond there (eqb l k) true ≡ same_leng
 same_is true l k = refl
 same_is false l k = refl
 
-entry_is : (s : Sender) (sent : List ℕ) (w : ℕ) → entry_rule s.remote_acked s.seq sent w ≡ entry_ok s sent (entry_of w)
-entry_is s sent w =
-    let x = entry_of w in
+entry_is : (s : Sender) (sent : List ℕ) (x : Entry) → entry_rule s.remote_acked s.seq sent x ≡ entry_ok s sent x
+entry_is s sent State = refl
+entry_is s sent (Packet x) =
     let p = sent_in sent (x.number % 32) in
     rw (
       and_assoc (leb 21 x.length) (leb x.length 1_400) (cond (known s.remote_acked s.seq x.number && is_stored p x.number) (eqb x.length p.length) true),
@@ -38,13 +40,13 @@ every_is f g e [] = refl
 every_is f g e (a ∷ l) = rw (e a, every_is f g e l)
 
 -- an entry is a state packet or a packet
+one_kind : (x : Entry) → states_of x + length (numbers_of x) ≡ 1
+one_kind State = refl
+one_kind (Packet x) = refl
+
 kinds : (ws : List ℕ) → state_count ws + length (packet_numbers ws) ≡ length ws
 kinds [] = refl
-kinds (w ∷ ws) = go (entry_of w).state refl (kinds ws)
-  where
-    go : (b : Bool) → (entry_of w).state ≡ b → state_count ws + length (packet_numbers ws) ≡ length ws → state_count (w ∷ ws) + length (packet_numbers (w ∷ ws)) ≡ length (w ∷ ws)
-    go true e ih = rw e (omega arith)
-    go false e ih = rw e (omega arith)
+kinds (w ∷ ws) = omega (arith, one_kind (entry_of w), length-append (numbers_of (entry_of w)) (packet_numbers ws), kinds ws)
 
 -- the whole queue
 
@@ -81,6 +83,6 @@ module _ (q : Queue) (s : Sender) (queue sent : List ℕ) where
         w.all,
         w.fresh_is,
         w.states_is,
-        every_is (entry_rule s.remote_acked s.seq sent) (λ x. entry_ok s sent (entry_of x)) (entry_is s sent) ws,
+        every_is (λ w. entry_rule s.remote_acked s.seq sent (entry_of w)) (λ w. entry_ok s sent (entry_of w)) (λ w. entry_is s sent (entry_of w)) ws,
         and_assoc (distinct (packet_numbers ws)) (every (known s.remote_acked s.seq) (packet_numbers ws)) (leb (state_count ws) 63),
       )

@@ -1,9 +1,9 @@
 -- The queue: the rules over its words are its layout and the model's rules of the entries seen. There are as many entries as words, with
 -- the same state packets and packet numbers; while some are left to take, the entries are exactly those left.
-use Prim.Native.Nat.{ℕ, suc, ◌+◌, ◌%◌, ◌≤◌, ◌<◌}
+use Prim.Native.Nat.{ℕ, ◌+◌, ◌%◌, ◌≤◌, ◌<◌}
 use native.Mathlib.Omega.{arith}
-use mathlib.Core.Path.{◌≡◌, refl, sym, ap₂, ◌∙◌}
-use mathlib.Core.List.{List, [], ◌∷◌}
+use mathlib.Core.Path.{◌≡◌, refl, sym, ap, ap₂, ◌∙◌}
+use mathlib.Core.List.{List, [], ◌∷◌, ◌++◌}
 use mathlib.Core.Option.{none, some}
 use mathlib.Core.Bool.{Bool, true, false, cond, ◌&&◌, ◌||◌, and_assoc, and_comm}
 use lib.Dec.{ltb, leb, eqb}
@@ -13,42 +13,39 @@ use Rattle.model.specs.Lists.{Bytes, on}
 use Rattle.model.specs.Slots.{Slots, ceiling, get}
 use Rattle.model.specs.Stream as model
 use Rattle.model.specs.Rules.{every, states, numbers, entry_test, queue_test}
+use Rattle.records_words.specs.declared.Entry.{Entry}
+use Rattle.records_words.specs.declared.Entry.TheVariants.{State, Packet}
 use Rattle.records.specs.declared.Sender.{Sender}
 use Rattle.records.specs.declared.Queue.{Queue}
 use Rattle.records_words.specs.Words.{sent_in, is_stored, entry_of}
-use Rattle.records.specs.Seen.{packet_of, seen_outgoing, seen_sender, entry_words, seen_entries, seen_queue, formed_queue}
-use Rattle.rules_queue.specs.Entries.{stored_length, same_length, entries_ok, state_count, packet_numbers, at_rest_ok, to_take_ok, ok_queue}
+use Rattle.records.specs.Seen.{packet_of, seen_outgoing, seen_sender, entry_words, entry_seen, place_after, seen_entries, seen_queue, formed_queue}
+use Rattle.rules_queue.specs.Entries.{stored_length, same_length, entry_ok, entries_ok, states_of, numbers_of, state_count, packet_numbers, at_rest_ok, to_take_ok, ok_queue}
 use Rattle.records.proofs.Cut.{cut_length}
+use Rattle.records.proofs.SeenQueue.{entries_length}
 use Rattle.rules_packets.proofs.SeenPackets.{outgoing_found}
 
 -- the entries of some words
 
-on_cond : {A B : Type 0} (f : A → B) (b : Bool) (x y : A) → f (cond b x y) ≡ cond b (f x) (f y)
-on_cond f true x y = refl
-on_cond f false x y = refl
-
-cond_same : {A : Type 0} (b : Bool) (x : A) → cond b x x ≡ x
-cond_same true x = refl
-cond_same false x = refl
-
 module _ (headers : Bytes) where
-  pub entries_length : (place : ℕ) (ws : List ℕ) → length (seen_entries headers place ws) ≡ length ws
-  entries_length place [] = refl
-  entries_length place (w ∷ ws) =
-      on_cond length (entry_of w).state _ _
-      ∙ ap₂ (λ p q. cond (entry_of w).state (suc p) (suc q)) (entries_length (suc place) ws) (entries_length place ws)
-      ∙ cond_same (entry_of w).state (suc (length ws))
+  states_first : (place : ℕ) (x : Entry) (ms : List model.Entry) → states (entry_seen headers place x ∷ ms) ≡ states_of x + states ms
+  states_first place State ms = omega arith
+  states_first place (Packet x) ms = omega arith
 
   pub entries_states : (place : ℕ) (ws : List ℕ) → states (seen_entries headers place ws) ≡ state_count ws
   entries_states place [] = refl
   entries_states place (w ∷ ws) =
-      on_cond states (entry_of w).state _ _ ∙ ap₂ (λ p q. cond (entry_of w).state (suc p) q) (entries_states (suc place) ws) (entries_states place ws)
+      let next = place_after place (entry_of w) in
+      states_first place (entry_of w) (seen_entries headers next ws) ∙ ap (λ k. states_of (entry_of w) + k) (entries_states next ws)
+
+  numbers_first : (place : ℕ) (x : Entry) (ms : List model.Entry) → numbers (entry_seen headers place x ∷ ms) ≡ numbers_of x ++ numbers ms
+  numbers_first place State ms = refl
+  numbers_first place (Packet x) ms = refl
 
   pub entries_numbers : (place : ℕ) (ws : List ℕ) → numbers (seen_entries headers place ws) ≡ packet_numbers ws
   entries_numbers place [] = refl
   entries_numbers place (w ∷ ws) =
-      on_cond numbers (entry_of w).state _ _
-      ∙ ap₂ (λ p q. cond (entry_of w).state p ((entry_of w).number ∷ q)) (entries_numbers (suc place) ws) (entries_numbers place ws)
+      let next = place_after place (entry_of w) in
+      numbers_first place (entry_of w) (seen_entries headers next ws) ∙ ap (λ ns. numbers_of (entry_of w) ++ ns) (entries_numbers next ws)
 
   module _ (s : Sender) (sent : List ℕ) (bytes : Bytes) where
     abbrev outgoing : Slots model.Packet
@@ -63,11 +60,13 @@ module _ (headers : Bytes) where
         go true = rw cut_length
         go false = refl
 
+    entry_same : (place : ℕ) (x : Entry) → entry_test outgoing (entry_seen headers place x) ≡ entry_ok s sent x
+    entry_same place State = rw cut_length
+    entry_same place (Packet x) = rw (same_length_lem x.number x.length)
+
     pub entries_every : (place : ℕ) (ws : List ℕ) → every (entry_test outgoing) (seen_entries headers place ws) ≡ entries_ok s sent ws
     entries_every place [] = refl
-    entries_every place (w ∷ ws) =
-        on_cond (every (entry_test outgoing)) (entry_of w).state _ _
-        ∙ rw (cut_length, same_length_lem (entry_of w).number (entry_of w).length, entries_every (suc place) ws, entries_every place ws) (sym (on_cond (λ b. b && entries_ok s sent ws) (entry_of w).state _ _))
+    entries_every place (w ∷ ws) = ap₂ ◌&&◌ (entry_same place (entry_of w)) (entries_every (place_after place (entry_of w)) ws)
 
 -- while entries are left to take, the queue is exactly those left
 pub left_length : (q : Queue) (words : List ℕ) → length words ≡ 128 → q.count ≤ 128 → q.left ≤ q.count → eqb q.left 0 ≡ false → length (entry_words q words) ≡ q.left

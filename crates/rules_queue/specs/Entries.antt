@@ -1,10 +1,11 @@
 -- 01's rules of the queue, over the records' numbers and the queue's words. No byte of a store is read. proofs/SeenQueue.antt proves that
 -- they are exactly the model's rules of what is seen, and the queue's layout.
-use Rattle.std.specs.Prelude.{ℕ, suc, ◌+◌, ◌%◌, List, [], ◌∷◌, Bool, true, cond, ◌&&◌, ltb, leb, eqb, length}
+use Rattle.std.specs.Prelude.{ℕ, ◌+◌, ◌%◌, List, [], ◌∷◌, ◌++◌, Bool, true, cond, ◌&&◌, ltb, leb, eqb, length}
 use Rattle.std.proofs.Math.Option.{Option, none, some}
 use Rattle.model.specs.Slots.{ceiling}
 use Rattle.model.specs.Rules.{distinct, every}
 use Rattle.records_words.specs.declared.Entry.{Entry}
+use Rattle.records_words.specs.declared.Entry.TheVariants.{State, Packet}
 use Rattle.records.specs.declared.Sender.{Sender}
 use Rattle.records.specs.declared.Queue.{Queue}
 use Rattle.records_words.specs.Words.{sent_in, is_stored, entry_of}
@@ -24,15 +25,25 @@ same_length l (some k) = eqb l k
 
 -- "lengths are 21 to 1,400 .. queued"; "a queued length is its packet's while that is stored"
 abbrev pub entry_ok : Sender → List ℕ → Entry → Bool
-entry_ok s sent x = cond x.state true (leb 21 x.length && (leb x.length 1_400 && same_length x.length (stored_length s sent x.number)))
+entry_ok s sent State = true
+entry_ok s sent (Packet x) = leb 21 x.length && (leb x.length 1_400 && same_length x.length (stored_length s sent x.number))
+
+-- what an entry adds to the number of state packets and to the packet numbers
+abbrev pub states_of : Entry → ℕ
+states_of State = 1
+states_of (Packet x) = 0
+
+abbrev pub numbers_of : Entry → List ℕ
+numbers_of State = []
+numbers_of (Packet x) = x.number ∷ []
 
 abbrev pub state_count : List ℕ → ℕ
 state_count [] = 0
-state_count (w ∷ ws) = cond (entry_of w).state (suc (state_count ws)) (state_count ws)
+state_count (w ∷ ws) = states_of (entry_of w) + state_count ws
 
 abbrev pub packet_numbers : List ℕ → List ℕ
 packet_numbers [] = []
-packet_numbers (w ∷ ws) = cond (entry_of w).state (packet_numbers ws) ((entry_of w).number ∷ packet_numbers ws)
+packet_numbers (w ∷ ws) = numbers_of (entry_of w) ++ packet_numbers ws
 
 abbrev pub entries_ok : Sender → List ℕ → List ℕ → Bool
 entries_ok s sent ws = every (λ w. entry_ok s sent (entry_of w)) ws

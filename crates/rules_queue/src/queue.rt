@@ -4,7 +4,7 @@ ghost use Rattle.rules_queue.specs.Entries.{places_ok, ok_queue};
 ghost use Rattle.rules_queue.specs.Passes.{sized, queued_ok, EntriesPassed};
 
 use constants::{QUEUE_WORDS, SENT_WORDS, STATE_PACKETS, STORE_SLOTS, UDX_MTU};
-use records::{Entry, Queue, Sender};
+use records::{Entry, Queue, QueuedPacket, Sender};
 
 const SLOTS: usize = STORE_SLOTS as usize;
 
@@ -24,28 +24,30 @@ fn sized(size: u32) -> bool
     21 <= size && size <= UDX_MTU
 }
 
-// An entry that is not a state packet; `near`: its number is from remote acked to below seq.
-fn queued_ok(near: bool, x: Entry, sent: &[u64; SENT_WORDS]) -> bool
+// A queued packet; `near`: its number is from remote acked to below seq.
+fn queued_ok(near: bool, x: QueuedPacket, sent: &[u64; SENT_WORDS]) -> bool
     ensures { result ≡ queued_ok near sent.now x }
 {
     let p = records::get_sent(sent, x.number);
+    // Not find_sent: no branch here.
     let here = records::is_stored(p, x.number);
     let stored = near & here;
     // "a queued length is its packet's while that is stored"
     let same = !stored | (x.length == p.length);
-    let sized = sized(x.length);
-    sized & same
+    let fits = sized(x.length);
+    fits & same
 }
 
 // The fast path: a stored packet with the entry's length, as most are. `same`: the word in its slot has its number and length.
-fn plain(acked: u32, seq: u32, x: Entry, same: bool) -> bool
+fn plain(acked: u32, seq: u32, x: QueuedPacket, same: bool) -> bool
     ensures { result ≡ (leb acked x.number && (ltb x.number seq && (same && sized x.length))) }
 {
-    let sized = sized(x.length);
-    acked <= x.number && x.number < seq && same && sized
+    let fits = sized(x.length);
+    acked <= x.number && x.number < seq && same && fits
 }
 
-// Checks the entries in the words from first to below end. One mark per slot records whether a number was seen before.
+// Checks the entries in the words from first to below end. One mark per slot records whether a number was seen before. Of the sender the
+// pass reads only two numbers, and so it is not given more.
 fn entries(
     first: usize,
     end: usize,
@@ -62,21 +64,22 @@ fn entries(
     let mut good = true;
     let mut fresh = true;
     let mut states: u32 = 0;
+    // By index: a slice would be of words, whose bits only records_words knows.
     for i in first..end {
-        let x = records::get_entry(queue, i);
-        let same = records::same_packet(queue, i, sent);
-        if x.state {
-            states += 1;
-        } else {
-            let slot = records::slot(x.number);
-            let marked = marks[slot];
-            let plain = plain(acked, seq, x, same);
-            let done = plain & !marked;
-            marks[slot] = true;
-            if !done {
-                let near = acked <= x.number && x.number < seq;
-                good &= queued_ok(near, x, sent);
-                fresh &= !marked & near;
+        match records::get_entry(queue, i) {
+            Entry::State => states += 1,
+            Entry::Packet(x) => {
+                let same = records::same_packet(queue, i, sent);
+                let slot = records::slot(x.number);
+                let marked = marks[slot];
+                let plain = plain(acked, seq, x, same);
+                let done = plain & !marked;
+                marks[slot] = true;
+                if !done {
+                    let near = acked <= x.number && x.number < seq;
+                    good &= queued_ok(near, x, sent);
+                    fresh &= !marked & near;
+                }
             }
         }
     }

@@ -1,5 +1,5 @@
 // Refusal 1: the rules of the records, in one pass over the stored packets, one over the held ones and one over the queue. No byte of a
-// store is read. specs/Ok.antt has the rules.
+// store is read. specs/Ok.antt has the rules; a range is two comparisons: `contains` would be no plainer.
 #![tactic(auto)]
 
 ghost use Rattle.std.specs.Prelude.{◌≡◌};
@@ -31,7 +31,7 @@ fn ok_rtt(e: Rtt) -> bool
 fn ok_clocks(k: Clocks) -> bool
     ensures { result ≡ clocks_ok k }
 {
-    k.drive.0 <= k.last.0 && k.last.0 < CLOCK_END
+    k.drive <= k.last && k.last.0 < CLOCK_END
 }
 
 // All the rules of the records.
