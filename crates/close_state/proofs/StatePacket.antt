@@ -13,19 +13,16 @@ use Rattle.records.specs.declared.Ending.{Ending}
 use Rattle.records.specs.declared.Queue.{Queue}
 use Rattle.records.specs.declared.Stream.{Stream}
 use Rattle.records.specs.declared.Totals.{Totals}
-use Rattle.records_words.specs.Words.{entry_of, entry_word}
+use Rattle.records_words.specs.declared.Entry.TheVariants.{State}
+use Rattle.records_words.specs.Words.{entry_word}
 use Rattle.records.specs.Put.{put}
 use Rattle.records.specs.Seen.{Lent, seen, seen_queue, seen_totals, formed_queue}
 use Rattle.records.specs.Setters.{with_queue}
-use Rattle.records_words.proofs.WordLaws.{entry_back}
 use Rattle.records.proofs.Put.{put_length}
 use Rattle.records.proofs.SeenQueue.{queue_state}
 use Rattle.records.proofs.FormedQueue.{queue_said, queue_says, formed_state}
 use Rattle.close_state.specs.declared.Queued.{Queued}
-use Rattle.close_state.specs.State.{seen_ending, state_header, state_entry, pushed_state, counted_state, Pushable, StateQueued, with_ending, with_state}
-
-entry_said : entry_of (entry_word state_entry) ≡ state_entry
-entry_said = entry_back state_entry (omega arith) (omega arith)
+use Rattle.close_state.specs.State.{seen_ending, state_header, pushed_state, counted_state, Pushable, StateQueued, with_ending, with_state, Terminates}
 
 totals_seen : (t : Totals) → seen_totals (counted_state t) ≡ count_state (seen_totals t)
 unfolding count_state
@@ -40,21 +37,21 @@ module _ (q : Queue) (queue : List ℕ) (headers : Bytes) (able : Pushable q (le
     fits = omega (arith, able.places, able.whole)
 
     queue_seen : formed_queue q queue ≡ true
-        → seen_queue (pushed_state q) (set queue q.count (entry_word state_entry)) (put headers (q.states * 20) bytes) ≡ pushed (model.state bytes) (seen_queue q queue headers)
+        → seen_queue (pushed_state q) (set queue q.count (entry_word State)) (put headers (q.states * 20) bytes) ≡ pushed (model.state bytes) (seen_queue q queue headers)
     queue_seen f =
-        queue_state q (pushed_state q) queue room state_entry entry_said able.rest able.rest refl refl headers bytes refl (queue_says q queue f).places twenty
+        queue_state q (pushed_state q) queue room able.rest able.rest refl refl headers bytes (queue_says q queue f).places twenty
         (rw twenty at fits)
 
     headers_length : length (put headers (q.states * 20) bytes) ≡ 1_280
     headers_length = put_length headers (q.states * 20) bytes fits ∙ able.whole
 
-  stays_formed : formed_queue q queue ≡ true → formed_queue (pushed_state q) (set queue q.count (entry_word state_entry)) ≡ true
+  stays_formed : formed_queue q queue ≡ true → formed_queue (pushed_state q) (set queue q.count (entry_word State)) ≡ true
   stays_formed f =
-      queue_said (pushed_state q) (set queue q.count (entry_word state_entry))
-      (formed_state q (pushed_state q) queue (queue_says q queue f) room able.queued state_entry entry_said able.rest able.rest refl refl refl refl able.places)
+      queue_said (pushed_state q) (set queue q.count (entry_word State))
+      (formed_state q (pushed_state q) queue (queue_says q queue f) room able.queued able.rest able.rest refl refl refl able.places)
 
   pub state_queued : (t : Totals) (error : Option UdxError) (remote seq ack : ℕ) (r : Queued) (queue' : List ℕ) (headers' : Bytes) → r.queue ≡ pushed_state q → r.totals ≡ counted_state t
-      → queue' ≡ set queue q.count (entry_word state_entry) → headers' ≡ put headers (q.states * 20) (header_bytes (state_header error remote seq ack))
+      → queue' ≡ set queue q.count (entry_word State) → headers' ≡ put headers (q.states * 20) (header_bytes (state_header error remote seq ack))
       → StateQueued q t error remote seq ack queue headers r queue' headers'
   state_queued t error remote seq ack r queue' headers' places totals words bytes =
       let twenty = header_length (state_header error remote seq ack) in
@@ -96,3 +93,23 @@ unfolding seen
 terminate_seen s t l x why ended q e remote seq ack f =
     state_seen (with_ending x s) t l q e remote seq ack f
     ∙ ap (λ (y : model.Ending). send_state_packet (model.with_ending y (seen s t l))) ended
+
+module _ (s : Stream) (t : Totals) (why : UdxError) (queue : List ℕ) (headers : Bytes) where
+  pub terminates : (ending : Ending) {k : Queued} {queue' : List ℕ} {headers' : Bytes} → seen_ending ending ≡ failed why (seen_ending s.ending)
+      → StateQueued s.queue t ending.error s.ids.remote s.sender.seq s.receiver.ack queue headers k queue' headers'
+      → Terminates s t why queue headers (record { stream = with_queue k.queue (with_ending ending s); totals = k.totals }) queue' headers'
+  terminates ending ends x =
+      let count = ap (λ (q : Queue). q.count) x.places in
+      let states = ap (λ (q : Queue). q.states) x.places in
+      record {
+        seen_after = λ f l. terminate_seen s t (with_state queue headers l) ending why ends x refl refl refl refl f;
+        others = refl;
+        pushed =
+            record {
+              left = ap (λ (q : Queue). q.left) x.places;
+              count = omega arith;
+              states = omega arith;
+              formed = x.formed;
+              whole = x.headers_long;
+            };
+      }

@@ -1,17 +1,19 @@
--- How a stream ends, and a queued state packet on the records: its header, its queue entry, the numbers after it, and the queue then seen.
-use Rattle.std.specs.Prelude.{◌≡◌, ℕ, ◌+◌, ◌%◌, ◌^◌, ◌<◌, true, List, length, Option}
+-- How a stream ends, and a queued state packet on the records: its header, its queue entry, the numbers after it, and the queue then seen;
+-- and both together, `terminate`.
+use Rattle.std.specs.Prelude.{◌≡◌, ℕ, ◌+◌, ◌%◌, ◌^◌, ◌≤◌, ◌<◌, true, List, length, Option}
 use Rattle.error.specs.declared.UdxError.{UdxError}
 use Rattle.packet.specs.declared.header.Header.{Header}
 use Rattle.packet.specs.Header.{header_bytes}
 use Rattle.model.specs.Lists.{Bytes}
 use Rattle.model.specs.Stream as model
-use Rattle.model.specs.Sending.{is_set, state_type, pushed, count_state}
-use Rattle.records_words.specs.declared.Entry.{Entry}
+use Rattle.model.specs.Sending.{is_set, state_type, pushed, count_state, terminate}
 use Rattle.records.specs.declared.Ending.{Ending}
 use Rattle.records.specs.declared.Queue.{Queue}
 use Rattle.records.specs.declared.Stream.{Stream}
+use Rattle.records.specs.declared.StreamAndTotals.{StreamAndTotals}
 use Rattle.records.specs.declared.Totals.{Totals}
-use Rattle.records.specs.Seen.{Lent, seen_state, seen_totals, seen_queue, formed_queue}
+use Rattle.records.specs.Seen.{Lent, seen, seen_state, seen_totals, seen_queue, formed_queue}
+use Rattle.records.specs.Setters.{with_queue}
 use Rattle.write_piece.specs.Piece.{header_of}
 use Rattle.close_state.specs.declared.Queued.{Queued}
 
@@ -22,10 +24,6 @@ seen_ending x = record { error = x.error; state = seen_state x.state; ended = x.
 -- 01, call 3: "State packets carry END once an error is set."
 abbrev pub state_header : Option UdxError → (remote seq ack : ℕ) → Header
 state_header error remote seq ack = header_of (state_type (is_set error)) remote seq ack
-
--- a state packet is a bare header; its place in the header store is not in the entry but counted
-abbrev pub state_entry : Entry
-state_entry = record { number = 0; length = 20; state = true }
 
 abbrev pub pushed_state : Queue → Queue
 pushed_state q = record { count = q.count + 1; left = q.left; states = q.states + 1; gone = q.gone }
@@ -78,3 +76,18 @@ with_ending x s =
 abbrev pub with_state : (queue : List ℕ) → (headers : Bytes) → Lent → Lent
 with_state queue headers l =
     record { sent = l.sent; held = l.held; queue = queue; outgoing = l.outgoing; incoming = l.incoming; headers = headers }
+
+-- at most one more state packet, and the queue stays laid out
+pub record Pushed (q : Queue) (queue : List ℕ) (q' : Queue) (queue' : List ℕ) (headers' : Bytes) : Type 0 where
+  pub left : q'.left ≡ q.left
+  pub count : q'.count ≤ q.count + 1
+  pub states : q'.states ≤ q.states + 1
+  pub formed : formed_queue q queue ≡ true → formed_queue q' queue' ≡ true
+  pub whole : length headers' ≡ 1_280
+
+-- terminate, whatever the words and bytes it is not lent
+pub record Terminates (s : Stream) (t : Totals) (why : UdxError) (queue : List ℕ) (headers : Bytes) (r : StreamAndTotals) (queue' : List ℕ) (headers' : Bytes) : Type 0 where
+  pub seen_after : formed_queue s.queue queue ≡ true → (l : Lent)
+      → seen r.stream r.totals (with_state queue' headers' l) ≡ terminate why (seen s t (with_state queue headers l))
+  pub others : r.stream ≡ with_queue r.stream.queue (with_ending r.stream.ending s)
+  pub pushed : Pushed s.queue queue r.stream.queue queue' headers'

@@ -8,20 +8,18 @@ ghost use Rattle.records.specs.Seen.{seen_state};
 ghost use Rattle.close_state.specs.State.{
   seen_ending,
   state_header,
-  state_entry,
   pushed_state,
   counted_state,
   Pushable,
   StateQueued,
+  Terminates,
 };
 
-use constants::{QUEUE_WORDS, UDX_HEADER_END, UDX_HEADER_SIZE};
+use constants::{QUEUE_WORDS, UDX_HEADER_END};
 use error::UdxError;
 use packet::Header;
-use records::{Ending, Entry, Queue, StreamState, Totals};
+use records::{Ending, Entry, Queue, Stream, StreamAndTotals, StreamState, Totals};
 use write_piece::create_header;
-
-const HEADER: u32 = UDX_HEADER_SIZE as u32;
 
 // What a queued state packet changes besides the words and the bytes.
 #[derive(Clone, Copy)]
@@ -51,7 +49,7 @@ pub fn close_remote(s: StreamState) -> StreamState
 }
 
 // terminate, without its state packet: the error replaces any earlier one.
-pub fn terminated(x: Ending, why: UdxError) -> Ending
+fn terminated(x: Ending, why: UdxError) -> Ending
     ensures { seen_ending result ≡ failed why (seen_ending x) }
 {
     Ending {
@@ -84,16 +82,6 @@ fn state_header(error: Option<UdxError>, remote: u32, seq: u32, ack: u32) -> Hea
     create_header(state_type(error.is_some()), remote, seq, ack)
 }
 
-fn state_entry() -> Entry
-    ensures { result ≡ state_entry }
-{
-    Entry {
-        number: 0,
-        length: HEADER,
-        state: true,
-    }
-}
-
 fn pushed_state(q: Queue) -> Queue
     requires { (q.count < 128) × (q.states < 64) }
     ensures { result ≡ pushed_state q }
@@ -114,7 +102,8 @@ fn counted_state(t: Totals) -> Totals
     }
 }
 
-// send_state_packet: the header is frozen at the next place of the header store, with the numbers as they are now.
+// send_state_packet: the header is frozen at the next place of the header store, with the numbers as they are now. It is given these and no
+// Stream: a delivery of data has the new ack before it has the new stream.
 pub fn send_state_packet(
     q: Queue,
     t: Totals,
@@ -131,9 +120,42 @@ pub fn send_state_packet(
 {
     let h = state_header(error, remote, seq, ack);
     records_stores::put_header(headers, q.states, h);
-    records::put_entry(queue, q.count as usize, state_entry());
+    records::put_entry(queue, q.count as usize, Entry::State);
     Queued {
         queue: pushed_state(q),
         totals: counted_state(t),
+    }
+}
+
+// terminate: the ending comes first, so the state packet carries END.
+pub fn terminate(
+    s: Stream,
+    t: Totals,
+    why: UdxError,
+    queue: &mut [u64; QUEUE_WORDS],
+    headers: &mut [u8],
+) -> StreamAndTotals
+    requires { Pushable s.queue (length headers.old) }
+    ensures { Terminates s t why queue.old headers.old result queue.new headers.new }
+{
+    let ending = terminated(s.ending, why);
+    let k = send_state_packet(
+        s.queue,
+        t,
+        ending.error,
+        s.ids.remote,
+        s.sender.seq,
+        s.receiver.ack,
+        queue,
+        headers,
+    );
+    let stream = Stream {
+        queue: k.queue,
+        ending,
+        ..s
+    };
+    StreamAndTotals {
+        stream,
+        totals: k.totals,
     }
 }

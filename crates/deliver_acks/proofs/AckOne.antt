@@ -20,10 +20,11 @@ use Rattle.model.specs.Receiving.{left, measured, count_acked, handle_remote_ack
 use Rattle.records_words.specs.declared.Sent.{Sent}
 use Rattle.records.specs.declared.Sender.{Sender}
 use Rattle.records.specs.declared.Stream.{Stream}
-use Rattle.records_words.specs.Words.{sent_in, is_stored}
+use Rattle.records_words.specs.Words.{sent_in, is_stored, found_sent}
 use Rattle.records.specs.Cut.{outgoing_slot}
 use Rattle.records.specs.Seen.{Lent, seen, seen_time, packet_of, seen_sender, seen_totals, seen_outgoing}
 use Rattle.records.specs.Setters.{with_words}
+use Rattle.records_words.proofs.WordLaws.{sent_found, sent_not_found}
 use Rattle.records.proofs.Cut.{cut_length}
 use Rattle.records.proofs.SeenOutgoing.{get_outgoing, drop_outgoing}
 use Rattle.deliver_acks.specs.declared.Acks.{Acks}
@@ -108,14 +109,15 @@ module _ (clock n : ℕ) (a : Acks) (sent : List ℕ) (long : length sent ≡ 64
       ap (λ (o : Option model.Packet). on o e (λ (p : model.Packet). handle_remote_ack clock n p e)) (sym got)
 
   -- the two branches of the code
-  pub acks_stored : {p : Sent} {e : Rtt} {sent' : List ℕ} → p ≡ slot → is_stored p n ≡ true → Measures a.rtt p clock e → sent' ≡ set sent (n % 32) 0
+  pub acks_stored : {p : Sent} {e : Rtt} {sent' : List ℕ} → found_sent sent n ≡ Some p → Measures a.rtt p clock e → sent' ≡ set sent (n % 32) 0
       → AcksOne clock n a sent (record { sender = left_sender a.sender p; rtt = e; totals = acked_totals a.totals p }) sent'
-  acks_stored {p} is stored m words =
+  acks_stored {p} found m words =
+      let is = sent_found sent n p found in
       record {
-        seen_after = λ s l. rw (words, m.estimate, is) (stored_seen (rw is at stored) s l);
+        seen_after = λ s l. rw (words, m.estimate, is.0) (stored_seen (rw is.0 at is.1) s l);
         same = same_left a.sender p;
         range = m.range;
       }
 
-  pub acks_absent : {p : Sent} → p ≡ slot → is_stored p n ≡ false → InRange a.rtt → AcksOne clock n a sent a sent
-  acks_absent is absent range = record { seen_after = absent_seen (rw is at absent); same = same_refl a.sender; range = range }
+  pub acks_absent : found_sent sent n ≡ None → InRange a.rtt → AcksOne clock n a sent a sent
+  acks_absent absent range = record { seen_after = absent_seen (sent_not_found sent n absent); same = same_refl a.sender; range = range }

@@ -7,11 +7,13 @@ ghost use Rattle.deliver_acks.specs.Acked.{left_sender, measured_rtt, acked_tota
 ghost use Rattle.deliver_acks.specs.Sacks.{RunInWindow, AcksRun, AcksBlocks};
 
 use constants::{SENT_WORDS, UDX_HEADER_SIZE};
+use packet::Block;
 use packet_blocks::BlockReader;
 use records::{Sender, Sent, Totals};
 use rtt::{Nanos, Rtt};
 
-// What acking a packet changes, besides the lent words.
+// What acking a packet changes, besides the lent words. These stay beside it: it is Copy and goes round the loops by value, which a struct
+// with a `&mut` cannot.
 #[derive(Clone, Copy)]
 pub struct Acks {
     pub sender: Sender,
@@ -58,16 +60,15 @@ pub fn handle_remote_ack(a: Acks, clock: Nanos, sent: &mut [u64; SENT_WORDS], n:
     requires { Timed a clock.0 × InWindow a.sender n }
     ensures { AcksOne clock.0 n a sent.old result sent.new }
 {
-    let p = records::get_sent(sent, n);
-    if records::is_stored(p, n) {
-        records::clear_sent(sent, n);
-        return Acks {
-            sender: left_sender(a.sender, p),
-            rtt: measured(a.rtt, p, clock),
-            totals: acked_totals(a.totals, p),
-        };
+    let Some(p) = records::find_sent(sent, n) else {
+        return a;
+    };
+    records::clear_sent(sent, n);
+    Acks {
+        sender: left_sender(a.sender, p),
+        rtt: measured(a.rtt, p, clock),
+        totals: acked_totals(a.totals, p),
     }
-    a
 }
 
 // Acks the numbers from `from` to below `to`, ascending.
@@ -83,12 +84,12 @@ fn ack_numbers(mut a: Acks, clock: Nanos, sent: &mut [u64; SENT_WORDS], from: u3
 
 // Acks the numbers of a block, end excluded. Only numbers from remote_acked to below seq can be stored, so a block takes at most 32
 // turns, however long it is.
-fn ack_block(a: Acks, clock: Nanos, sent: &mut [u64; SENT_WORDS], start: u32, end: u32) -> Acks
+fn ack_block(a: Acks, clock: Nanos, sent: &mut [u64; SENT_WORDS], block: Block) -> Acks
     requires { Timed a clock.0 × (a.sender.seq ≤ a.sender.remote_acked + 32) }
-    ensures { AcksRun clock.0 start end a sent.old result sent.new }
+    ensures { AcksRun clock.0 block.start block.end a sent.old result sent.new }
 {
-    let from = start.max(a.sender.remote_acked);
-    let to = end.min(a.sender.seq);
+    let from = block.start.max(a.sender.remote_acked);
+    let to = block.end.min(a.sender.seq);
     ack_numbers(a, clock, sent, from, to)
 }
 
@@ -103,7 +104,7 @@ pub fn handle_incoming_sacks(
     ensures { AcksBlocks clock.0 payload.now a sent.old result sent.new }
 {
     for block in BlockReader::new(payload) {
-        a = ack_block(a, clock, sent, block.start, block.end);
+        a = ack_block(a, clock, sent, block);
     }
     a
 }

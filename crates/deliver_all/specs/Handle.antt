@@ -11,7 +11,8 @@ use Rattle.records.specs.Seen.{Lent, seen, formed_queue}
 use Rattle.records.specs.Beside.{Stay, held_size}
 use Rattle.records.specs.Laid.{LaidReceiver}
 use Rattle.records.specs.declared.StreamAndTotals.{StreamAndTotals}
-use Rattle.deliver_parts.specs.Steps.{Measured, Pushed, TakesData}
+use Rattle.close_state.specs.State.{Pushed}
+use Rattle.deliver_parts.specs.Steps.{Measured, TakesData}
 
 -- everything before DATA
 

@@ -13,13 +13,14 @@ use lib.Dec.{ltb}
 use borrow.Author.Tests.{le-leb, lt-leb, ltb-true, ltb-false}
 use lib.ListN.{length, set, length-set}
 use lib.Seq.{get_or-set_same}
+use Rattle.std.specs.Prelude.{Option, is_some}
 use Rattle.model.specs.Lists.{Bytes}
 use Rattle.model.specs.Slots.{ceiling, get, insert}
 use Rattle.model.specs.Stream as model
 use Rattle.model.specs.Receiving.{acked, advance, absorb}
 use Rattle.records_words.specs.declared.Held.{Held}
 use Rattle.records.specs.declared.Receiver.{Receiver}
-use Rattle.records_words.specs.Words.{held_of, held_word, is_held}
+use Rattle.records_words.specs.Words.{held_of, held_word, is_held, found_held}
 use Rattle.records.specs.Put.{put}
 use Rattle.records.specs.Cut.{beyond, incoming_slot}
 use Rattle.records.specs.Seen.{held_payload, seen_incoming, seen_receiver}
@@ -161,24 +162,27 @@ module _ {r : Receiver} {words : List ℕ} {n : ℕ} (g : Advancing r words n) w
       let at : n ≡ max r.ack r.top = omega arith in
       rw (e, ← at) (stops (λ store. get_past r.read_cursor r.top words store n l))
 
-  module _ (laid : LaidReceiver r) (unread : r.read_cursor ≤ n) (below : n < r.top) {p : Held} (is : p ≡ held_in words (n % 32)) where
-    entry : (store : Bytes) → get (seen_receiver r words store).incoming n ≡ cond (is_held p n) (some (held_payload store (n % ceiling) p)) none
-    entry store = get_incoming r.read_cursor r.top words store n unread below ∙ rw is refl
+  module _ (laid : LaidReceiver r) (unread : r.read_cursor ≤ n) (below : n < r.top) {p : Option Held} (is : p ≡ found_held words n) where
+    entry : {here : Bool} → is_some p ≡ here → (store : Bytes)
+        → get (seen_receiver r words store).incoming n ≡ cond here (some (held_payload store (n % 32) (held_in words (n % 32)))) none
+    entry {here} e store = get_incoming r.read_cursor r.top words store n unread below ∙ rw held refl
+      where
+        held : is_held (held_in words (n % 32)) n ≡ here
+        held = grind arith
 
-    pub advance_at_gap : is_held p n ≡ false → Advanced r words (acked_to r n)
-    advance_at_gap e = stops (λ store. entry store ∙ rw e refl)
+    pub advance_at_gap : is_some p ≡ false → Advanced r words (acked_to r n)
+    advance_at_gap e = stops (entry e)
 
-    pub advance_turn : is_held p n ≡ true → Advancing r words (n + 1)
+    pub advance_turn : is_some p ≡ true → Advancing r words (n + 1)
     advance_turn e =
         let w = laid.width in
         let k = (r.read_cursor + ceiling) - suc n in
         let one : steps r n ≡ suc k = omega arith in
-        let found : (store : Bytes) → get (seen_receiver r words store).incoming n ≡ some (held_payload store (n % ceiling) p) =
-        λ store. entry store ∙ rw e refl in
         record {
           within = omega arith;
           seen = λ store.
-              rw add-one (sym (ap (λ (j : ℕ). advance j (seen_receiver (acked_to r n) words store)) one ∙ advance_goes (seen_receiver (acked_to r n) words store) k (found store)))
+              rw add-one (sym (ap (λ (j : ℕ). advance j (seen_receiver (acked_to r n) words store)) one
+              ∙ advance_goes (seen_receiver (acked_to r n) words store) k (entry e store)))
               ∙ g.seen store;
         }
 

@@ -50,8 +50,7 @@ fn in_order(r: Receiver, held: &[u64; HELD_WORDS]) -> Receiver
     ensures { Advanced r held.now result }
 {
     for n in r.ack..r.top {
-        let p = records::get_held(held, n);
-        if !records::is_held(p, n) {
+        if records::find_held(held, n).is_none() {
             return Receiver { ack: n, ..r };
         }
     }

@@ -1,5 +1,5 @@
 -- The parts of a delivery on the records: each agrees with the model's part on what is seen, whatever the words and stores it is not lent.
-use Rattle.std.specs.Prelude.{ℕ, ◌+◌, ◌^◌, ◌≤◌, ◌<◌, ◌≡◌, List, true, length}
+use Rattle.std.specs.Prelude.{ℕ, ◌+◌, ◌^◌, ◌≤◌, ◌<◌, ◌≡◌, List, true}
 use Rattle.packet.specs.declared.header.Header.{Header}
 use Rattle.packet.specs.Header.{has_type}
 use Rattle.rtt.specs.Estimate.{InRange}
@@ -7,7 +7,6 @@ use Rattle.model.specs.Lists.{Bytes}
 use Rattle.model.specs.Receiving.{on_sack, on_end, on_data}
 use Rattle.records.specs.declared.Sender.{Sender}
 use Rattle.records.specs.declared.Receiver.{Receiver}
-use Rattle.records.specs.declared.Queue.{Queue}
 use Rattle.records.specs.declared.Timing.{Timing}
 use Rattle.records.specs.declared.Stream.{Stream}
 use Rattle.records.specs.declared.Totals.{Totals}
@@ -15,7 +14,7 @@ use Rattle.records.specs.Cut.{incoming_slot}
 use Rattle.records.specs.Seen.{Lent, seen, formed_queue}
 use Rattle.records.specs.Beside.{Stay, held_size}
 use Rattle.records.specs.Setters.{with_queue, with_words}
-use Rattle.close_state.specs.State.{with_state, with_ending}
+use Rattle.close_state.specs.State.{with_state, with_ending, Pushed}
 use Rattle.deliver_acks.specs.Acked.{SameNumbers}
 use Rattle.records.specs.Laid.{LaidReceiver}
 use Rattle.deliver_data.specs.Absorbing.{Accepted}
@@ -60,14 +59,6 @@ pub record Sacked (s : Stream) (t : Totals) (clock : ℕ) (h : Header) (payload 
   pub others : r.stream ≡ with_sender_and_timing r.stream.sender r.stream.timing s
 
 -- END
-
--- at most one more state packet, and the queue stays laid out
-pub record Pushed (q : Queue) (queue : List ℕ) (q' : Queue) (queue' : List ℕ) (headers' : Bytes) : Type 0 where
-  pub left : q'.left ≡ q.left
-  pub count : q'.count ≤ q.count + 1
-  pub states : q'.states ≤ q.states + 1
-  pub formed : formed_queue q queue ≡ true → formed_queue q' queue' ≡ true
-  pub whole : length headers' ≡ 1_280
 
 pub record Ended (s : Stream) (t : Totals) (h : Header) (queue : List ℕ) (headers : Bytes) (r : StreamAndTotals) (queue' : List ℕ) (headers' : Bytes) : Type 0 where
   pub seen_after : formed_queue s.queue queue ≡ true → (l : Lent)

@@ -1,4 +1,5 @@
-// What a datagram's type bits do, one part each: SACK blocks, END, DATA (handle_incoming).
+// What a datagram's type bits do, one part each: SACK blocks, END, DATA (handle_incoming). Each part is lent only the words and stores that
+// it writes.
 #![tactic(auto)]
 
 ghost use Rattle.std.specs.Prelude.{length};
@@ -14,6 +15,7 @@ use records::{Stream, StreamAndTotals, Timing, Totals};
 use rtt::Nanos;
 
 // Acks the numbers of the SACK blocks.
+#[tactic(auto, unfolding(records::specs::Seen::seen, model::specs::Receiving::on_sack))]
 pub fn on_sack(
     s: Stream,
     t: Totals,
@@ -26,6 +28,7 @@ pub fn on_sack(
     ensures { Sacked s t clock.0 h payload.now sent.old result sent.new }
 {
     if h.is_sack() {
+        // What acking changes, as in drive_settle; there it does not go back as it comes out.
         let before = Acks {
             sender: s.sender,
             rtt: s.timing.rtt,
@@ -52,6 +55,7 @@ pub fn on_sack(
 }
 
 // "END closes both sides, sets UnexpectedEof and queues a state packet."
+#[tactic(auto, unfolding(records::specs::Seen::seen, model::specs::Receiving::on_end))]
 pub fn on_end(
     s: Stream,
     t: Totals,
@@ -63,27 +67,11 @@ pub fn on_end(
     ensures { Ended s t h queue.old headers.old result queue.new headers.new }
 {
     if h.is_end() {
-        let remote = close_state::remote_ended(s.ending);
-        let ending = close_state::terminated(remote, UdxError::UnexpectedEof);
-        let k = close_state::send_state_packet(
-            s.queue,
-            t,
-            ending.error,
-            s.ids.remote,
-            s.sender.seq,
-            s.receiver.ack,
-            queue,
-            headers,
-        );
-        let stream = Stream {
-            queue: k.queue,
-            ending,
+        let closed = Stream {
+            ending: close_state::remote_ended(s.ending),
             ..s
         };
-        return StreamAndTotals {
-            stream,
-            totals: k.totals,
-        };
+        return close_state::terminate(closed, t, UdxError::UnexpectedEof, queue, headers);
     }
     StreamAndTotals {
         stream: s,
@@ -92,6 +80,7 @@ pub fn on_end(
 }
 
 // "DATA is stored when seq is at least ack (a repeat replaces), ack moves past all held in order, and a state packet is queued."
+#[tactic(auto, unfolding(records::specs::Seen::seen, model::specs::Receiving::on_data, model::specs::Receiving::count_data))]
 pub fn on_data(
     s: Stream,
     t: Totals,

@@ -40,7 +40,7 @@ module _ {s : Stream} {clock : ℕ} {sent queue : List ℕ} {headers : Bytes} (d
           let moved = x.moved in
           let seq₂ = y.seq in
           let acked = y.acked in
-          omega (arith, y.more.count, d.queued, d.acked.width)
+          omega (arith, y.pushed.count, d.queued, d.acked.width)
 
       pub begins : Begun s t clock sent queue headers r sent'' queue' headers'
       unfolding seen
@@ -51,11 +51,11 @@ module _ {s : Stream} {clock : ℕ} {sent queue : List ℕ} {headers : Bytes} (d
             flushable =
                 record {
                   stored = y.stored;
-                  rest = y.more.left ∙ ap (λ (q : Queue). q.left) queue_same ∙ d.rest;
+                  rest = y.pushed.left ∙ ap (λ (q : Queue). q.left) queue_same ∙ d.rest;
                   room = room;
-                  formed = queue_says r.stream.queue queue' (y.more.formed still_formed);
+                  formed = queue_says r.stream.queue queue' (y.pushed.formed still_formed);
                 };
-            whole = y.more.whole;
+            whole = y.pushed.whole;
           }
 
 -- flushing

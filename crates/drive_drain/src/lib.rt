@@ -14,7 +14,7 @@ pub fn any_stored(s: Sender, sent: &[u64; SENT_WORDS]) -> bool
 {
     // A loop, since no proof was found for `any` over the numbers.
     for n in s.remote_acked..s.seq {
-        if records::is_stored(records::get_sent(sent, n), n) {
+        if records::find_sent(sent, n).is_some() {
             return true;
         }
     }

@@ -10,19 +10,19 @@ use mathlib.Core.Option.{Option, none, some}
 use mathlib.Core.Bool.{Bool, true, false, cond, ◌&&◌, true≢false}
 use lib.Dec.{leb}
 use lib.ListN.{length, set, length-set}
+use Rattle.std.specs.Prelude.{Some}
 use Rattle.model.specs.Lists.{Bytes, on}
 use Rattle.model.specs.Slots.{Slots, ceiling}
 use Rattle.model.specs.Stream as model
 use Rattle.model.specs.Sending.{pushed}
 use Rattle.model.specs.Driving.{flushed_marks, flushed, fits, flush_loop, flush}
-use Rattle.model.proofs.Gate.{and_left, and_right}
 use Rattle.records_words.specs.declared.Sent.{Sent}
 use Rattle.records.specs.declared.Sender.{Sender}
 use Rattle.records.specs.declared.Queue.{Queue}
-use Rattle.records_words.specs.Words.{sent_in, is_stored, entry_of, entry_word}
+use Rattle.records_words.specs.Words.{sent_in, is_stored, found_sent, entry_of, entry_word}
 use Rattle.records.specs.Cut.{outgoing_slot}
 use Rattle.records.specs.Seen.{packet_of, seen, seen_sender, seen_queue, QueueFormed, with_sent}
-use Rattle.records_words.proofs.WordLaws.{stored_number, entry_back}
+use Rattle.records_words.proofs.WordLaws.{stored_number, sent_found, entry_back}
 use Rattle.records.proofs.Cut.{cut_length}
 use Rattle.records.proofs.SeenOutgoing.{get_outgoing}
 use Rattle.records.proofs.SeenQueue.{queue_packet}
@@ -77,11 +77,11 @@ module _ (s : Sender) (q : Queue) (sent queue : List ℕ) (n : ℕ) (low : s.rem
   fits_is = ap (λ (m : ℕ). leb (s.inflight + m) s.cwnd) (cut_length outgoing_slot outgoing (n % ceiling) here.length)
 
   -- it is waiting, and fits or does not
-  waited : (is_stored here n && here.waiting) ≡ true → (b : Bool) → leb (s.inflight + here.length) s.cwnd ≡ b
+  waited : is_stored here n ≡ true → here.waiting ≡ true → (b : Bool) → leb (s.inflight + here.length) s.cwnd ≡ b
       → flush_loop (suc k) n end ≡ cond b (next (flushed n shown end)) end
-  waited h b l =
-      turn_is ∙ ap (λ (a : Bool). at (cond a (some shown) none)) (and_left (is_stored here n) here.waiting h)
-      ∙ ap₂ (λ (w z : Bool). cond w (cond z (next (flushed n shown end)) end) (next end)) (and_right (is_stored here n) here.waiting h) (fits_is ∙ l)
+  waited there waiting b l =
+      turn_is ∙ ap (λ (a : Bool). at (cond a (some shown) none)) there
+      ∙ ap₂ (λ (w z : Bool). cond w (cond z (next (flushed n shown end)) end) (next end)) waiting (fits_is ∙ l)
 
 -- the loop
 
@@ -167,16 +167,13 @@ module _ {s : Sender} {q : Queue} {sent₀ queue₀ sent queue : List ℕ} {infl
               ∙ g.same outgoing headers e;
         }
 
-    module _ (h : (is_stored packet n && packet.waiting) ≡ true) where
+    module _ (there : is_stored packet n ≡ true) (waiting : packet.waiting ≡ true) where
       pub ends_full : leb (inflight + packet.length) s.cwnd ≡ false → Flushes s q sent₀ queue₀ (flushed_of s q inflight count) sent queue
       ends_full long =
           over
           (λ outgoing headers e.
-          sym (waited (with_inflight inflight s) (with_count count q) sent queue n g.low more outgoing headers e (s.seq - (n + 1)) h false long)
+          sym (waited (with_inflight inflight s) (with_count count q) sent queue n g.low more outgoing headers e (s.seq - (n + 1)) there waiting false long)
           ∙ ap (λ (m : ℕ). flush_loop m n (seen_now outgoing headers e)) (sym left_is))
-
-      there : is_stored packet n ≡ true
-      there = and_left (is_stored packet n) packet.waiting h
 
       -- the words after it
       abbrev sent_after : List ℕ
@@ -189,7 +186,7 @@ module _ {s : Sender} {q : Queue} {sent₀ queue₀ sent queue : List ℕ} {infl
         entry_said : entry_of (entry_word (flushed_entry packet)) ≡ flushed_entry packet
         entry_said =
             let l = (g.stored n g.low more there).short in
-            entry_back (flushed_entry packet) (omega arith) (rw (stored_number packet n there) fit)
+            entry_back _ (omega arith) (rw (stored_number packet n there) fit)
 
         roomy : count < length queue
         roomy = let r = place in let l = g.queue_long in omega arith
@@ -203,7 +200,7 @@ module _ {s : Sender} {q : Queue} {sent₀ queue₀ sent queue : List ℕ} {infl
             ap₂ (λ (a : model.Sender) (b : model.Queue). model.with_queue b (model.with_sender a e))
             (ap₂ (numbers_of s) (ap (λ (k : ℕ). inflight + k) size)
             (remark_seen s sent g.sent_long g.stored n g.low more there fit false packet.transmits (transmits_fit _ _) outgoing flushed_marks refl))
-            (queue_packet (with_count count q) (with_count (count + 1) q) queue roomy (flushed_entry packet) entry_said g.rest g.rest refl refl headers refl
+            (queue_packet (with_count count q) (with_count (count + 1) q) queue roomy g.rest g.rest refl refl _ entry_said headers
             ∙ ap₂ (λ (m k : ℕ). pushed (model.packet m k) (seen_queue (with_count count q) queue headers)) (stored_number packet n there) size)
 
         goes : Going s q sent₀ queue₀ sent_after queue_after (inflight + packet.length) (count + 1) (n + 1)
@@ -217,22 +214,21 @@ module _ {s : Sender} {q : Queue} {sent₀ queue₀ sent queue : List ℕ} {infl
               room = let r = g.room in omega arith;
               formed =
                   λ w.
-                  formed_packet (with_count count q) (with_count (count + 1) q) queue (g.formed w) roomy place (flushed_entry packet) entry_said
-                  g.rest g.rest refl refl refl refl;
+                  formed_packet (with_count count q) (with_count (count + 1) q) queue (g.formed w) roomy place g.rest g.rest refl refl _ entry_said refl;
               same =
                   λ outgoing headers e.
                   one (seen_now outgoing headers e)
                   (seen_of (with_inflight (inflight + packet.length) s) (with_count (count + 1) q) sent_after queue_after outgoing headers e)
-                  (waited (with_inflight inflight s) (with_count count q) sent queue n g.low more outgoing headers e (s.seq - (n + 1)) h true enough
+                  (waited (with_inflight inflight s) (with_count count q) sent queue n g.low more outgoing headers e (s.seq - (n + 1)) there waiting true enough
                   ∙ ap (flush_loop (s.seq - (n + 1)) (suc n)) (sym (flushed_seen outgoing headers e)))
                   ∙ g.same outgoing headers e;
             }
 
--- the same for the code's values: p is the packet read at n
+-- the same for the code's values: p is the packet found at n
 pub goes_again : {s : Sender} {q : Queue} {sent₀ queue₀ sent queue : List ℕ} {inflight count n : ℕ} → Going s q sent₀ queue₀ sent queue inflight count n → n < s.seq → n < 2 ^ 32
-    → (p : Sent) → p ≡ sent_in sent (n % ceiling) → (is_stored p n && p.waiting) ≡ true → leb (inflight + p.length) s.cwnd ≡ true
+    → (p : Sent) → found_sent sent n ≡ Some p → p.waiting ≡ true → leb (inflight + p.length) s.cwnd ≡ true
     → (sent' queue' : List ℕ) → FlushesPacket p count sent queue sent' queue' → Going s q sent₀ queue₀ sent' queue' (inflight + p.length) (count + 1) (n + 1)
-goes_again {sent = sent} {n = n} g more fit p is h enough sent' queue' x =
-    let there = and_left (is_stored p n) p.waiting h in
-    rw (x.sent_words ∙ ap (λ (k : ℕ). with_sent sent k (flushed_packet p)) (stored_number p n there), x.queue_words, is)
-    (goes g more (rw is at h) (rw is at enough) fit)
+goes_again {sent = sent} {n = n} g more fit p found waiting enough sent' queue' x =
+    let is = sent_found sent n p found in
+    rw (x.sent_words ∙ ap (λ (k : ℕ). with_sent sent k (flushed_packet p)) (stored_number p n is.1), x.queue_words, is.0)
+    (goes g more (rw is.0 at is.1) (rw is.0 at waiting) (rw is.0 at enough) fit)

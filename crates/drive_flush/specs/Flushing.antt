@@ -3,6 +3,7 @@ use Rattle.std.specs.Prelude.{ℕ, ◌+◌, ◌-◌, ◌≤◌, ◌≡◌, List,
 use Rattle.model.specs.Driving as drive
 use Rattle.records_words.specs.declared.Sent.{Sent}
 use Rattle.records_words.specs.declared.Entry.{Entry}
+use Rattle.records_words.specs.declared.Entry.TheVariants.{Packet}
 use Rattle.records.specs.declared.Sender.{Sender}
 use Rattle.records.specs.declared.Queue.{Queue}
 use Rattle.records.specs.declared.Stream.{Stream}
@@ -20,7 +21,7 @@ flushed_packet p =
 
 -- 01, 'Records', send queue: "a stored packet's number and length"
 abbrev pub flushed_entry : Sent → Entry
-flushed_entry p = record { number = p.number; length = p.length; state = false }
+flushed_entry p = Packet (record { number = p.number; length = p.length })
 
 -- the packet is no longer waiting, and is the queue's entry `at`
 pub record FlushesPacket (p : Sent) (at : ℕ) (sent queue sent' queue' : List ℕ) : Type 0 where

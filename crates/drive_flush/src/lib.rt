@@ -1,31 +1,16 @@
 // Queues waiting packets again while they fit the window (flush_waiting_packets).
 #![tactic(auto)]
 
-ghost use Rattle.std.specs.Prelude.{◌≡◌, ◌&&◌, ◌+◌, ◌<◌, leb};
-ghost use Rattle.records_words.specs.Words.{is_stored};
+ghost use Rattle.std.specs.Prelude.{◌≡◌, ◌<◌};
 ghost use Rattle.drive_flush.specs.Flushing.{FlushesPacket, Roomy, Flushes};
 
 use constants::{QUEUE_WORDS, SENT_WORDS};
-use records::{Entry, Queue, Sender, Sent};
+use records::{Entry, Queue, QueuedPacket, Sender, Sent};
 
 #[derive(Clone, Copy)]
 pub struct Flushed {
     pub sender: Sender,
     pub queue: Queue,
-}
-
-// Whether p is packet n and waiting.
-fn waits(p: Sent, n: u32) -> bool
-    ensures { result ≡ (is_stored p n && p.waiting) }
-{
-    records::is_stored(p, n) && p.waiting
-}
-
-// Whether a packet of this length fits the window; compares with a difference, because the sum could wrap.
-fn fits(inflight: u32, length: u32, cwnd: u32) -> bool
-    ensures { result ≡ leb (inflight + length) cwnd }
-{
-    inflight <= cwnd && length <= cwnd - inflight
 }
 
 // The packet is no longer waiting, and becomes the queue's entry `at`.
@@ -37,13 +22,12 @@ fn flush_packet(p: Sent, at: u32, sent: &mut [u64; SENT_WORDS], queue: &mut [u64
         waiting: false,
         ..p
     };
-    let entry = Entry {
+    let entry = QueuedPacket {
         number: p.number,
         length: p.length,
-        state: false,
     };
     records::put_sent(sent, flushed);
-    records::put_entry(queue, at as usize, entry);
+    records::put_entry(queue, at as usize, Entry::Packet(entry));
 }
 
 // Flushes the waiting packets, ascending, up to the first that does not fit: each counts as inflight again and is queued.
@@ -59,9 +43,10 @@ pub fn flush_waiting_packets(
     let mut inflight = s.inflight;
     let mut count = q.count;
     for n in s.remote_acked..s.seq {
-        let p = records::get_sent(sent, n);
-        if waits(p, n) {
-            if !fits(inflight, p.length, s.cwnd) {
+        if let Some(p) = records::find_sent(sent, n)
+            && p.waiting
+        {
+            if !records::fits(inflight, p.length, s.cwnd) {
                 break;
             }
             flush_packet(p, count, sent, queue);

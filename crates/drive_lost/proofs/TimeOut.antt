@@ -8,20 +8,20 @@ use mathlib.Core.List.{List}
 use mathlib.Core.Option.{Option, none, some}
 use mathlib.Core.Bool.{Bool, true, false, cond, ◌&&◌, not, true≢false}
 use lib.Dec.{ltb}
-use borrow.Author.Tests.{lt-ltb, le-ltb, not-true}
+use borrow.Author.Tests.{lt-ltb, le-ltb}
 use lib.ListN.{length}
+use Rattle.std.specs.Prelude.{Some}
 use Rattle.model.specs.Lists.{Bytes, on}
 use Rattle.model.specs.Slots.{Slots, ceiling}
 use Rattle.model.specs.Stream as model
 use Rattle.model.specs.Driving as drive
 use Rattle.model.specs.Driving.{lost_marks, lost, time_out_packet, time_out_number, time_out_loop}
-use Rattle.model.proofs.Gate.{and_left, and_right}
 use Rattle.records_words.specs.declared.Sent.{Sent}
 use Rattle.records.specs.declared.Sender.{Sender}
-use Rattle.records_words.specs.Words.{sent_in, is_stored}
+use Rattle.records_words.specs.Words.{sent_in, is_stored, found_sent}
 use Rattle.records.specs.Cut.{outgoing_slot}
 use Rattle.records.specs.Seen.{marks_of, packet_of, seen, seen_sender, with_sent}
-use Rattle.records_words.proofs.WordLaws.{stored_number}
+use Rattle.records_words.proofs.WordLaws.{stored_number, sent_found}
 use Rattle.records.proofs.Cut.{cut_length}
 use Rattle.records.proofs.SeenOutgoing.{get_outgoing}
 use Rattle.drive_lost.specs.Packets.{AllSentBounds, with_inflight}
@@ -142,13 +142,7 @@ module _ {s : Sender} {sent₀ sent : List ℕ} {inflight n : ℕ} (g : Going s 
               ∙ g.same outgoing e;
         }
 
-    module _ (h : (is_stored packet n && not packet.waiting) ≡ true) where
-      there : is_stored packet n ≡ true
-      there = and_left (is_stored packet n) (not packet.waiting) h
-
-      sent_on : packet.waiting ≡ false
-      sent_on = not-true packet.waiting (and_right (is_stored packet n) (not packet.waiting) h)
-
+    module _ (there : is_stored packet n ≡ true) (sent_on : packet.waiting ≡ false) where
       pub ends_failed : 5 < packet.transmits → TimesOutPackets s sent₀ (record { sender = with_inflight inflight s; failed = true }) sent
       ends_failed many =
           let k : s.seq - n ≡ suc (s.seq - (n + 1)) = omega arith in
@@ -182,12 +176,11 @@ module _ {s : Sender} {sent₀ sent : List ℕ} {inflight n : ℕ} (g : Going s 
                   ∙ g.same outgoing e;
             }
 
--- the same for the code's values: p is the packet read at n, q the one written
+-- the same for the code's values: p is the packet found at n, q the one written
 pub leaves_again : {s : Sender} {sent₀ sent : List ℕ} {inflight n : ℕ} → Going s sent₀ sent inflight n → n < s.seq → n < 2 ^ 32 → (p q : Sent)
-    → p ≡ sent_in sent (n % ceiling) → (is_stored p n && not p.waiting) ≡ true → p.transmits ≤ 5 → q ≡ lost_packet p
+    → found_sent sent n ≡ Some p → p.waiting ≡ false → p.transmits ≤ 5 → q ≡ lost_packet p
     → (sent' : List ℕ) → sent' ≡ with_sent sent q.number q → (inflight' : ℕ) → inflight' ≡ inflight - p.length → Going s sent₀ sent' inflight' (n + 1)
-leaves_again {sent = sent} {inflight = inflight} {n = n} g more fits p q is h few made sent' words inflight' less =
-    let packet = sent_in sent (n % ceiling) in
-    let there = and_left (is_stored p n) (not p.waiting) h in
-    rw (words ∙ ap (λ (y : Sent). with_sent sent y.number y) made ∙ ap (λ (k : ℕ). with_sent sent k (lost_packet p)) (stored_number p n there), less, is)
-    (leaves_inflight g more (rw is at h) (rw is at few) fits)
+leaves_again {sent = sent} {n = n} g more fits p q found sent_on few made sent' words inflight' less =
+    let is = sent_found sent n p found in
+    rw (words ∙ ap (λ (y : Sent). with_sent sent y.number y) made ∙ ap (λ (k : ℕ). with_sent sent k (lost_packet p)) (stored_number p n is.1), less, is.0)
+    (leaves_inflight g more (rw is.0 at is.1) (rw is.0 at sent_on) (rw is.0 at few) fits)

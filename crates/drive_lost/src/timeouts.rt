@@ -1,6 +1,5 @@
 // What a due timer does to the stored packets: all are considered lost (the loop of poll_check_timeouts).
-ghost use Rattle.std.specs.Prelude.{◌≡◌, ◌&&◌, not, ◌≤◌};
-ghost use Rattle.records_words.specs.Words.{is_stored};
+ghost use Rattle.std.specs.Prelude.{◌≡◌, ◌≤◌};
 ghost use Rattle.drive_lost.specs.Packets.{AllSentBounds};
 ghost use Rattle.drive_lost.specs.Timeouts.{lost_packet, TimesOutPackets};
 
@@ -15,14 +14,8 @@ pub struct Passed {
     pub failed: bool,
 }
 
-// Whether p is packet n and not waiting, so that it counts as inflight.
-fn in_flight(p: Sent, n: u32) -> bool
-    ensures { result ≡ (is_stored p n && not p.waiting) }
-{
-    records::is_stored(p, n) && !p.waiting
-}
-
-// The packet, waiting, with one more transmit.
+// The packet, waiting, with one more transmit. A packet that is taken gains a transmit as well, but there it gets a time sent (crate
+// take_entry): the two share nothing but that sum.
 fn lost_packet(p: Sent) -> Sent
     requires { p.transmits ≤ 5 }
     ensures { result ≡ lost_packet p }
@@ -42,8 +35,9 @@ pub fn time_out_packets(s: Sender, sent: &mut [u64; SENT_WORDS]) -> Passed
 {
     let mut inflight = s.inflight;
     for n in s.remote_acked..s.seq {
-        let p = records::get_sent(sent, n);
-        if in_flight(p, n) {
+        if let Some(p) = records::find_sent(sent, n)
+            && !p.waiting
+        {
             if (UDX_MAX_TRANSMITS as u32) < p.transmits {
                 return Passed {
                     sender: Sender { inflight, ..s },

@@ -6,22 +6,17 @@ use mathlib.Core.Path.{◌≡◌, refl, ap, ap₂, sym, subst, ◌∙◌}
 use mathlib.Core.List.{List, []}
 use mathlib.Core.Bool.{Bool, true, false}
 use lib.ListN.{length}
-use Rattle.error.specs.declared.UdxError.TheVariants as error
 use Rattle.model.specs.Lists.{Bytes}
 use Rattle.model.specs.Stream as model
-use Rattle.model.specs.Sending.{failed}
 use Rattle.model.specs.Driving as drive
-use Rattle.records.specs.declared.Ending.{Ending}
 use Rattle.records.specs.declared.Queue.{Queue}
 use Rattle.records.specs.declared.Sender.{Sender}
 use Rattle.records.specs.declared.Timing.{Timing}
 use Rattle.records.specs.declared.Stream.{Stream}
 use Rattle.records.specs.declared.Totals.{Totals}
 use Rattle.records.specs.Seen.{Lent, seen, formed_queue}
-use Rattle.records.specs.Setters.{with_queue, with_words}
-use Rattle.close_state.specs.declared.Queued.{Queued}
-use Rattle.close_state.specs.State.{seen_ending, StateQueued, with_ending, with_state}
-use Rattle.close_state.proofs.StatePacket.{terminate_seen}
+use Rattle.records.specs.Setters.{with_words}
+use Rattle.close_state.specs.State.{Pushed}
 use Rattle.drive_lost.specs.declared.timeouts.Passed.{Passed}
 use Rattle.drive_lost.specs.Packets.{AllSentBounds}
 use Rattle.drive_timer.specs.Timer.{timing_seen, IsDue, Shrinks}
@@ -29,7 +24,7 @@ use Rattle.drive_lost.specs.Timeouts as pass
 use Rattle.records.specs.declared.StreamAndTotals.{StreamAndTotals}
 use Rattle.drive_timeouts.specs.declared.Lost.{Lost}
 use Rattle.drive_settle.specs.Settling.{with_timed}
-use Rattle.drive_timeouts.specs.Timeouts.{Losable, Loses, OneMoreEntry, TimesOutStream, with_polled, Checked}
+use Rattle.drive_timeouts.specs.Timeouts.{Losable, Loses, TimesOutStream, with_polled, Checked}
 
 -- the packets that are considered lost
 
@@ -66,25 +61,10 @@ module _ {s : Stream} {clock : ℕ} {sent : List ℕ} {lost : Lost} {sent' : Lis
   queue_same : lost.stream.queue ≡ s.queue
   queue_same = ap (λ (z : Stream). z.queue) x.others
 
--- the stream ends
-
-module _ (s : Stream) (t : Totals) (queue : List ℕ) (headers : Bytes) where
-  pub times_out : (ending : Ending) {k : Queued} {queue' : List ℕ} {headers' : Bytes} → seen_ending ending ≡ failed error.TimedOut (seen_ending s.ending)
-      → StateQueued s.queue t ending.error s.ids.remote s.sender.seq s.receiver.ack queue headers k queue' headers'
-      → TimesOutStream s t queue headers (record { stream = with_queue k.queue (with_ending ending s); totals = k.totals }) queue' headers'
-  times_out ending ends x =
-      let count = ap (λ (q : Queue). q.count) x.places in
-      record {
-        seen_after = λ f l. terminate_seen s t (with_state queue headers l) ending error.TimedOut ends x refl refl refl refl f;
-        others = refl;
-        more =
-            record { left = ap (λ (q : Queue). q.left) x.places; count = omega arith; formed = x.formed; whole = x.headers_long };
-      }
-
 -- the whole check
 
-pub no_more : (q : Queue) (queue : List ℕ) (headers : Bytes) → length headers ≡ 1_280 → OneMoreEntry q queue q queue headers
-no_more q queue headers whole = record { left = refl; count = omega arith; formed = λ f. f; whole = whole }
+no_more : (q : Queue) (queue : List ℕ) (headers : Bytes) → length headers ≡ 1_280 → Pushed q queue q queue headers
+no_more q queue headers whole = record { left = refl; count = omega arith; states = omega arith; formed = λ f. f; whole = whole }
 
 module _ (s : Stream) (t : Totals) (clock : ℕ) (sent queue : List ℕ) (headers : Bytes) where
   -- not due
@@ -98,7 +78,7 @@ module _ (s : Stream) (t : Totals) (clock : ℕ) (sent queue : List ℕ) (header
         seq = refl;
         acked = refl;
         stored = stored;
-        more = no_more s.queue queue headers whole;
+        pushed = no_more s.queue queue headers whole;
       }
 
   module _ (is : IsDue s.timing clock s.sender true) {lost : Lost} {sent' : List ℕ} (x : Loses s clock sent lost sent') where
@@ -122,7 +102,7 @@ module _ (s : Stream) (t : Totals) (clock : ℕ) (sent queue : List ℕ) (header
           seq = x.seq;
           acked = x.acked;
           stored = x.stored;
-          more = subst (λ (q : Queue). OneMoreEntry s.queue queue q queue headers) (sym (queue_same x)) (no_more s.queue queue headers whole);
+          pushed = subst (λ (q : Queue). Pushed s.queue queue q queue headers) (sym (queue_same x)) (no_more s.queue queue headers whole);
         }
 
     -- a packet failed
@@ -138,5 +118,5 @@ module _ (s : Stream) (t : Totals) (clock : ℕ) (sent queue : List ℕ) (header
           seq = ap (λ (z : Stream). z.sender.seq) y.others ∙ x.seq;
           acked = ap (λ (z : Stream). z.sender.remote_acked) y.others ∙ x.acked;
           stored = subst (λ (z : Sender). AllSentBounds z sent') (sym (ap (λ (z : Stream). z.sender) y.others)) x.stored;
-          more = subst (λ (q : Queue). OneMoreEntry q queue r.stream.queue queue' headers') (queue_same x) y.more;
+          pushed = subst (λ (q : Queue). Pushed q queue r.stream.queue queue' headers') (queue_same x) y.pushed;
         }

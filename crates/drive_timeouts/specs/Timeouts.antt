@@ -1,16 +1,14 @@
 -- Timeouts on the records: the packets that a due timer considers lost, the stream that ends by TimedOut, and the whole check. Each agrees
 -- with the model on what is seen.
-use Rattle.std.specs.Prelude.{ℕ, ◌+◌, ◌-◌, ◌*◌, ◌^◌, ◌≤◌, ◌<◌, ◌≡◌, List, true, length}
+use Rattle.std.specs.Prelude.{ℕ, ◌-◌, ◌*◌, ◌^◌, ◌≤◌, ◌<◌, ◌≡◌, List, true, length}
 use Rattle.error.specs.declared.UdxError.TheVariants as error
 use Rattle.model.specs.Lists.{Bytes}
-use Rattle.model.specs.Sending.{terminate}
 use Rattle.model.specs.Driving as drive
-use Rattle.records.specs.declared.Queue.{Queue}
 use Rattle.records.specs.declared.Stream.{Stream}
 use Rattle.records.specs.declared.Totals.{Totals}
 use Rattle.records.specs.Seen.{Lent, seen, formed_queue}
-use Rattle.records.specs.Setters.{with_queue, with_words}
-use Rattle.close_state.specs.State.{Pushable, with_ending, with_state}
+use Rattle.records.specs.Setters.{with_words}
+use Rattle.close_state.specs.State.{Pushable, Pushed, Terminates}
 use Rattle.drive_lost.specs.Packets.{AllSentBounds}
 use Rattle.records.specs.declared.StreamAndTotals.{StreamAndTotals}
 use Rattle.drive_timeouts.specs.declared.Lost.{Lost}
@@ -33,19 +31,9 @@ pub record Loses (s : Stream) (clock : ℕ) (sent : List ℕ) (r : Lost) (sent' 
   pub acked : r.stream.sender.remote_acked ≡ s.sender.remote_acked
   pub stored : AllSentBounds r.stream.sender sent'
 
--- at most one more entry, and the queue stays laid out
-pub record OneMoreEntry (q : Queue) (queue : List ℕ) (q' : Queue) (queue' : List ℕ) (headers' : Bytes) : Type 0 where
-  pub left : q'.left ≡ q.left
-  pub count : q'.count ≤ q.count + 1
-  pub formed : formed_queue q queue ≡ true → formed_queue q' queue' ≡ true
-  pub whole : length headers' ≡ 1_280
-
 -- 01, call 4: "TimedOut terminates as in terminate"
-pub record TimesOutStream (s : Stream) (t : Totals) (queue : List ℕ) (headers : Bytes) (r : StreamAndTotals) (queue' : List ℕ) (headers' : Bytes) : Type 0 where
-  pub seen_after : formed_queue s.queue queue ≡ true → (l : Lent)
-      → seen r.stream r.totals (with_state queue' headers' l) ≡ terminate error.TimedOut (seen s t (with_state queue headers l))
-  pub others : r.stream ≡ with_queue r.stream.queue (with_ending r.stream.ending s)
-  pub more : OneMoreEntry s.queue queue r.stream.queue queue' headers'
+abbrev pub TimesOutStream : Stream → Totals → (queue : List ℕ) → (headers : Bytes) → StreamAndTotals → (queue' : List ℕ) → (headers' : Bytes) → Type 0
+TimesOutStream s t queue headers r queue' headers' = Terminates s t error.TimedOut queue headers r queue' headers'
 
 -- what the whole check needs: also room for the state packet
 pub record Checkable (s : Stream) (clock : ℕ) (sent : List ℕ) (headers : Bytes) : Type 0 where
@@ -65,4 +53,4 @@ pub record Checked (s : Stream) (t : Totals) (clock : ℕ) (sent queue : List �
   pub seq : r.stream.sender.seq ≡ s.sender.seq
   pub acked : r.stream.sender.remote_acked ≡ s.sender.remote_acked
   pub stored : AllSentBounds r.stream.sender sent'
-  pub more : OneMoreEntry s.queue queue r.stream.queue queue' headers'
+  pub pushed : Pushed s.queue queue r.stream.queue queue' headers'

@@ -1,5 +1,5 @@
 // Timeouts (poll_check_timeouts): a due timer backs off, halves the window and considers the packets lost; a packet with no transmits
-// left ends the stream.
+// left ends the stream. Each step is lent only the words and bytes that it writes.
 #![tactic(auto)]
 
 ghost use Rattle.close_state.specs.State.{Pushable};
@@ -48,26 +48,7 @@ fn timed_out(
     ensures { TimesOutStream s t queue.old headers.old result queue.new
         headers.new }
 {
-    let ending = close_state::terminated(s.ending, UdxError::TimedOut);
-    let k = close_state::send_state_packet(
-        s.queue,
-        t,
-        ending.error,
-        s.ids.remote,
-        s.sender.seq,
-        s.receiver.ack,
-        queue,
-        headers,
-    );
-    let stream = Stream {
-        queue: k.queue,
-        ending,
-        ..s
-    };
-    StreamAndTotals {
-        stream,
-        totals: k.totals,
-    }
+    close_state::terminate(s, t, UdxError::TimedOut, queue, headers)
 }
 
 // poll_check_timeouts. Packets marked before the one that failed stay marked.

@@ -12,7 +12,7 @@ use rtt::Nanos;
 pub fn due(t: Timing, clock: Nanos, s: Sender) -> bool
     ensures { IsDue t clock.0 s result }
 {
-    t.deadline.0.0 <= clock.0 && s.remote_acked != s.seq
+    t.deadline.0 <= clock && s.remote_acked != s.seq
 }
 
 // Backs off a due timer: the next deadline is twice the rto away.
@@ -26,7 +26,7 @@ pub fn backed_off(t: Timing, clock: Nanos) -> Timing
     }
 }
 
-// After settling: if remote acked moved, the deadline is one rto away.
+// After settling: if remote acked moved, the deadline is one rto away. The test is in here, as in the model's `restarted`.
 pub fn restarted(t: Timing, clock: Nanos, moved: bool) -> Timing
     requires { (t.rtt.rto.0 ≤ 5 * 2 ^ 60) × (clock.0 < 2 ^ 60) }
     ensures { timing_seen result ≡ model.restarted clock.0 moved (timing_seen t) }

@@ -7,24 +7,25 @@ use native.Mathlib.Omega.{arith}
 use mathlib.Core.Path.{◌≡◌, refl, ap, ap₂, sym, subst, ◌∙◌}
 use mathlib.Core.List.{List, [], ◌++◌, append_assoc, append-nil}
 use mathlib.Core.Option.{none, some}
-use mathlib.Core.Bool.{Bool, true, false, true≢false, cond, ◌||◌}
+use mathlib.Core.Bool.{Bool, true, false, true≢false, ◌||◌}
 use borrow.Author.Tests.{lt-ltb, le-ltb}
 use lib.ListN.{length, set, take, drop, length-append, length-take, length-drop}
 use lib.Seq.{take-take, take-length}
+use Rattle.std.specs.Prelude.{Some, None}
 use Rattle.model.specs.Lists.{Bytes}
 use Rattle.model.specs.Slots.{Slots, ceiling, get, insert}
 use Rattle.model.specs.Stream as model
 use Rattle.model.specs.Receiving.{Got, rest, read_to, finished, got_none, got_front, got_whole, read_loop, read_next}
 use Rattle.records_words.specs.declared.Held.{Held}
 use Rattle.records.specs.declared.Receiver.{Receiver}
-use Rattle.records_words.specs.Words.{held_of, held_word, is_held}
+use Rattle.records_words.specs.Words.{held_of, held_word, is_held, found_held}
 use Rattle.records.specs.Cut.{cut, incoming_slot}
 use Rattle.records.specs.Put.{put}
 use Rattle.records.specs.Seen.{held_payload, seen_receiver}
-use Rattle.records_words.proofs.WordLaws.{held_back, held_number, held_full}
+use Rattle.records_words.proofs.WordLaws.{held_back, held_number, held_full, held_found, held_not_found}
 use Rattle.records.proofs.Cut.{in_is, cut_length, cut_drop}
 use Rattle.records.proofs.Put.{put_length, put_put}
-use Rattle.records.proofs.SeenIncoming.{held_in, get_incoming, get_past, finish_incoming, offset_incoming}
+use Rattle.records.proofs.SeenIncoming.{held_in, held_at, get_incoming, get_past, finish_incoming, offset_incoming}
 use Rattle.read_bytes.specs.Reading.{Fit, Readable, CanPut, Front, HasRead, left_count, left_bytes, moved_by, got}
 
 -- a packet's bytes
@@ -168,25 +169,28 @@ module _ {r : Receiver} {words₀ : List ℕ} {store buf₀ : Bytes} {n : ℕ} {
       subst (λ (k : ℕ). HasRead r words₀ store buf₀ (record { receiver = read_up_to r k; count = count; finished = any }) words buf) at
       (stops (get_past n r.top words₀ store n l))
 
-  module _ (below : n < r.top) {p : Held} (is : p ≡ held_in words (n % 32)) where
-    entry : get m.incoming n ≡ cond (is_held p n) (some (held_payload store (n % ceiling) p)) none
-    entry = get_incoming n r.top words₀ store n (omega arith) below ∙ rw (is, g.kept) refl
+  module _ (below : n < r.top) where
+    entry : get m.incoming n ≡ held_at words store n
+    entry = get_incoming n r.top words₀ store n (omega arith) below ∙ rw g.kept refl
 
-    pub read_at_gap : is_held p n ≡ false
+    pub read_at_gap : None ≡ found_held words n
         → HasRead r words₀ store buf₀ (record { receiver = read_up_to r n; count = count; finished = any }) words buf
-    read_at_gap e = stops (entry ∙ rw e refl)
+    read_at_gap e = stops (entry ∙ rw (held_not_found words n (sym e)) refl)
 
-    module _ (here : is_held p n ≡ true) where
+    module _ {p : Held} (e : Some p ≡ found_held words n) where
+      here : (p ≡ held_in words (n % 32)) × (is_held p n ≡ true)
+      here = held_found words n p (sym e)
+
       number : p.number ≡ n
-      number = held_number p n here
+      number = held_number p n here.1
 
       pub read_fits : Fit p
       read_fits =
           let f = g.readable.packets n g.passed (omega arith) in
-          rw (← g.kept, ← is) at f here
+          rw (← g.kept, ← here.0) at f here.1
 
       found : get m.incoming n ≡ some (held_payload store (p.number % ceiling) p)
-      found = entry ∙ rw (here, number) refl
+      found = entry ∙ rw (← here.0, here.1, number) refl
 
       -- the model visits this packet too
       visit : {x : Got} → read_loop (suc (visits r (n + 1))) (length buf₀ - count) m ≡ x → read_loop (visits r n) (length buf₀ - count) m ≡ x
@@ -226,13 +230,13 @@ module _ {r : Receiver} {words₀ : List ℕ} {store buf₀ : Bytes} {n : ℕ} {
           → seen_receiver (read_up_to r n) words' store ≡ read_to (p.offset + room) (held_payload store (p.number % ceiling) p) m
       moved room {words'} f e l =
           let fit = read_fits in
-          let is₀ : p ≡ held_in words₀ (n % ceiling) = rw g.kept at is in
+          let is₀ : p ≡ held_in words₀ (n % ceiling) = rw g.kept at here.0 in
           let back : held_of (held_word (moved_by room p)) ≡ moved_by room p = held_back (moved_by room p) (omega arith) (omega arith) f.number in
           let put : words' ≡ set words₀ (n % ceiling) (held_word (moved_by room p)) =
           f.moved ∙ ap₂ (λ (i k : ℕ). set words (i % ceiling) (held_word (moved_by k p))) number e ∙ rw g.kept refl in
           let all =
-          offset_incoming n words₀ (sym (ap length g.kept) ∙ f.long) n (moved_by room p) number (held_full p n here) back (omega arith) r.top store
-          below (ap (λ (q : Held). q.past) is₀) in
+          offset_incoming n words₀ (sym (ap length g.kept) ∙ f.long) n (moved_by room p) number (held_full p n here.1) back (omega arith)
+          r.top store below (ap (λ (q : Held). q.past) is₀) in
           rw put
           (ap (λ (x : Slots model.Held). record { ack = r.ack; read_cursor = n; incoming = x })
           ((rw (← is₀) at all)

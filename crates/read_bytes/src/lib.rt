@@ -23,7 +23,8 @@ pub struct Read {
     pub receiver: Receiver,
     // Bytes put into the buffer, a front part included; the rest of the buffer is unchanged.
     pub count: usize,
-    // A packet was finished: the read answers ready. Without one the bytes of a front part still count, so there is no Option.
+    // Whether a packet was read to its last byte: the read then answers ready. A flag beside the count, since a front part puts bytes and
+    // finishes no packet.
     pub finished: bool,
 }
 
@@ -35,7 +36,8 @@ fn left(p: Held) -> u32
     p.past.saturating_sub(1) - p.offset
 }
 
-// Puts the next `count` bytes of a held packet into buf, from `at` on.
+// Puts the next `count` bytes of a held packet into buf, from `at` on. Like read_front, it takes the whole buffer and not only the part
+// from `at` on, so that its contract says of the bytes before `at` that they stay.
 fn put_next(buf: &mut [u8], at: usize, incoming: &[u8], p: Held, count: u32)
     requires { CanPut p incoming.now buf.old at count }
     ensures { buf.new ≡ put buf.old at (take count (left_bytes incoming.now p)) }
@@ -75,14 +77,13 @@ pub fn read_next(r: Receiver, held: &mut [u64; HELD_WORDS], incoming: &[u8], buf
             read_cursor: n,
             ..r
         };
-        let p = records::get_held(held, n);
-        if !records::is_held(p, n) {
+        let Some(p) = records::find_held(held, n) else {
             return Read {
                 receiver,
                 count,
                 finished,
             };
-        }
+        };
         let k = left(p);
         if size - count < k as usize {
             read_front(held, incoming, buf, count, p);

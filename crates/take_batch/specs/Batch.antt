@@ -1,23 +1,18 @@
 -- What this crate's functions promise: how many entries the next batch has, and the first one's length. Each promise is about the model's
 -- end that is seen of the records (`seen`), for any stream with the numbers and words that the function is given.
-use Rattle.std.specs.Prelude.{ℕ, ◌≤◌, ◌≡◌, List, cond}
-use Rattle.model.specs.Lists.{Bytes}
-use Rattle.model.specs.Stream as model
+use Rattle.std.specs.Prelude.{ℕ, ◌≤◌, ◌≡◌, List}
 use Rattle.model.specs.Driving.{head_length, batch}
 use Rattle.records_words.specs.declared.Entry.{Entry}
+use Rattle.records_words.specs.declared.Entry.TheVariants.{State, Packet}
 use Rattle.records.specs.declared.Queue.{Queue}
 use Rattle.records.specs.declared.Stream.{Stream}
 use Rattle.records.specs.declared.Totals.{Totals}
-use Rattle.records.specs.Cut.{cut, header_slot}
 use Rattle.records.specs.Seen.{Lent, seen}
 
 -- the size of an entry's datagram; a state packet is a bare header
 abbrev pub entry_size : Entry → ℕ
-entry_size x = cond x.state 20 x.length
-
--- an entry in the model; a state packet's bytes are at `place` in the header store
-abbrev pub entry_seen : Bytes → ℕ → Entry → model.Entry
-entry_seen headers place x = cond x.state (model.state (cut header_slot headers place 20)) (model.packet x.number x.length)
+entry_size State = 20
+entry_size (Packet x) = x.length
 
 -- 01, call 5: "the next batch, at most the ceiling of equal-length entries" (poll_transmit)
 pub record Batched (q : Queue) (segments : ℕ) (queue : List ℕ) (r : ℕ) : Type 0 where

@@ -2,21 +2,19 @@
 -- the model's store with that packet marked. A packet is there if its number is in the window and its slot holds it.
 use Prim.Native.Nat.{ℕ, suc, ◌+◌, ◌*◌, ◌%◌, ◌^◌, ◌≤◌, ◌<◌}
 use native.Mathlib.Omega.{arith}
-use mathlib.Core.Path.{◌≡◌, refl, ap, sym, ◌∙◌}
+use mathlib.Core.Path.{◌≡◌, refl, ap, ap₂, sym, ◌∙◌}
 use mathlib.Core.List.{List, [], ◌∷◌, ◌++◌, append-nil}
 use mathlib.Core.Option.{none, some}
 use mathlib.Core.Bool.{Bool, true, false, cond, ◌&&◌}
 use lib.Dec.{leb, ltb}
 use borrow.Author.Tests.{leb-true, leb-false, ltb-true, ltb-false}
-use lib.ListN.{length, take, drop, length-take, length-set, take-append-drop}
+use lib.ListN.{length, take, drop, take-append-drop}
 use Rattle.rtt.specs.Estimate.{nanos}
 use Rattle.model.specs.Lists.{Bytes}
 use Rattle.model.specs.Slots.{Slots, ceiling, get, insert}
 use Rattle.model.specs.Stream as model
 use Rattle.model.specs.Driving.{marked, taken_marks}
 use Rattle.model.proofs.Gate.{and_left, and_right}
-use Rattle.records_words.specs.declared.Sent.{Sent}
-use Rattle.records_words.specs.declared.Entry.{Entry}
 use Rattle.records.specs.declared.Sender.{Sender}
 use Rattle.records_words.specs.Words.{sent_of, sent_in, sent_word, sent_time, is_stored}
 use Rattle.records.specs.Cut.{cut, outgoing_slot, header_slot}
@@ -25,12 +23,7 @@ use Rattle.records.specs.Seen.{packet_of, with_sent}
 use Rattle.records_words.proofs.WordLaws.{sent_back, stored_number, stored_full}
 use Rattle.records.proofs.Cut.{out_is, head_is, cut_length, cut_whole}
 use Rattle.records.proofs.SeenOutgoing.{get_outgoing, get_settled, get_unsent, remark_outgoing}
-use Rattle.take_entry.specs.declared.Progress.{Progress}
-use Rattle.take_entry.specs.Transmit.{TransmitBounds, taken_packet, send_entry, store_seen, is_there, PutInBuffer, CanTakeEntry, TakesState, TakesPacket, TakesEntry}
-
--- a part of a store is at most as long as requested
-pub part_short : (k : ℕ) (part store : List ℕ) → part ≡ take k store → length part ≤ k
-part_short k part store e = rw e (simp length-take (omega arith))
+use Rattle.take_entry.specs.Transmit.{TransmitBounds, taken_packet, send_entry, store_seen, is_there, PutInBuffer}
 
 -- the bytes of a packet
 
@@ -42,6 +35,13 @@ state-bytes headers place e h =
 pub packet_bytes : (outgoing : Bytes) (i k : ℕ) → length outgoing ≡ 44_800 → i < 32 → k ≤ 1_400 → take k (drop (i * 1_400) outgoing) ≡ cut outgoing_slot outgoing i k
 packet_bytes outgoing i k e l h =
     ap (λ (z : ℕ). take k (drop (i * z) outgoing)) (sym out_is) ∙ sym (cut_whole outgoing_slot outgoing i k (rw out_is (omega arith)) (omega (arith, out_is)))
+
+pub state_length : (headers : Bytes) (place : ℕ) → length headers ≡ 1_280 → place < 64 → length (take 20 (drop (place * 20) headers)) ≡ 20
+state_length headers place e h = ap length (state-bytes headers place e h) ∙ cut_length header_slot headers place 20
+
+pub packet_length : (outgoing : Bytes) (i k : ℕ) → length outgoing ≡ 44_800 → i < 32 → k ≤ 1_400
+    → length (take k (drop (i * 1_400) outgoing)) ≡ k
+packet_length outgoing i k e l h = ap length (packet_bytes outgoing i k e l h) ∙ cut_length outgoing_slot outgoing i k
 
 -- a packet is there
 
@@ -59,10 +59,6 @@ module _ (s : Sender) (sent : List ℕ) (outgoing : Bytes) (n : ℕ) where
           get_outgoing s.remote_acked s.seq sent outgoing n (leb-true s.remote_acked n p) (ltb-true n s.seq q)
       go true p false q = get_unsent s.remote_acked s.seq sent outgoing n (ltb-false n s.seq q)
       go false p b q = get_settled s.remote_acked s.seq sent outgoing n (leb-false s.remote_acked n p)
-
-  -- the code's test on what it read from the slot
-  pub test_there : (p : Sent) (r : Bool) → p ≡ sent_in sent (n % ceiling) → r ≡ (leb s.remote_acked n && (ltb n s.seq && is_stored p n)) → is_there s sent n ≡ r
-  test_there p r e t = sym (t ∙ rw e refl)
 
   module _ (there : is_there s sent n ≡ true) where
     pub there_low : s.remote_acked ≤ n
@@ -91,72 +87,51 @@ module _ (s : Sender) (sent : List ℕ) (outgoing : Bytes) (n : ℕ) where
         remark_outgoing s.remote_acked sent long n (taken_packet p clock) number (stored_full p n there_stored) back there_low s.seq outgoing
         (taken_marks clock) there_high refl (ap (λ (k : ℕ). record { waiting = p.waiting; transmits = k; sent = some clock }) one)
 
--- what was put and what is stored after one entry
+-- nothing is put
 
--- nothing put
-put_none : (buf : Bytes) (at : ℕ) → buf ≡ put buf at []
+pub put_none : (buf : Bytes) (at : ℕ) → put buf at [] ≡ buf
 unfolding put
 put_none buf at =
-    let e : at ≡ at + 0 = omega arith in
-    sym (take-append-drop at buf) ∙ ap (λ (k : ℕ). take at buf ++ drop k buf) e
+    let e : at + 0 ≡ at = omega arith in
+    ap (λ (k : ℕ). take at buf ++ drop k buf) e ∙ take-append-drop at buf
 
 pub written_none : (at : ℕ) (buf : Bytes) (store : Slots model.Packet) → PutInBuffer (record { datagrams = []; outgoing = store }) at buf at buf store
-written_none at buf store = record { bytes = put_none buf at; count = let e : at ≡ at + 0 = omega arith in e; marks = refl }
+written_none at buf store = record { bytes = sym (put_none buf at); count = let e : at ≡ at + 0 = omega arith in e; marks = refl }
 
-written_one : (at : ℕ) (buf : Bytes) (end : ℕ) (buf' d : Bytes) (store : Slots model.Packet) → buf' ≡ put buf at d → end ≡ at + length d
-    → PutInBuffer (record { datagrams = d ∷ []; outgoing = store }) at buf end buf' store
-written_one at buf end buf' d store e l = record { bytes = e ∙ ap (put buf at) (sym (append-nil d)); count = l ∙ ap (λ (b : Bytes). at + length b) (sym (append-nil d)); marks = refl }
+-- the datagrams of one entry and the store after it: what the code copies and marks
 
-module _ (s : Sender) (x : Entry) (clock : ℕ) (p : Progress) (sent : List ℕ) (outgoing headers buf : Bytes) (kept : CanTakeEntry s x clock p sent outgoing headers buf) where
-  pub takes_state : x.state ≡ true → (r : Progress) (buf' : Bytes) → TakesState p headers buf r buf' → TakesEntry s x clock p sent outgoing headers buf r sent buf'
+module _ (clock : ℕ) where
+  pub sends_state : (headers : Bytes) (place : ℕ) (o : Slots model.Packet) → length headers ≡ 1_280 → place < 64
+      → send_entry clock (model.state (cut header_slot headers place 20)) o
+      ≡ record { datagrams = take 20 (drop (place * 20) headers) ∷ []; outgoing = o }
   unfolding send_entry
-  takes_state e r buf' t =
-      let d = state-bytes headers p.place kept.places (kept.next e) in
-      let l = cut_length header_slot headers p.place 20 in
-      let a = t.at in
-      record {
-        written = rw e (written_one p.at buf r.at buf' (cut header_slot headers p.place 20) (store_seen s sent outgoing) (t.bytes ∙ ap (put buf p.at) d) (omega arith));
-        place = rw e t.place;
-        short = omega arith;
-        words = refl;
-      }
+  sends_state headers place o e h = ap (λ (b : Bytes). record { datagrams = b ∷ []; outgoing = o }) (sym (state-bytes headers place e h))
 
-  module _ (e : x.state ≡ false) where
-    pub takes_none : is_there s sent x.number ≡ false → TakesEntry s x clock p sent outgoing headers buf p sent buf
+  module _ (s : Sender) (sent : List ℕ) (outgoing : Bytes) (n l : ℕ) where
+    pub sends_gone : is_there s sent n ≡ false
+        → send_entry clock (model.packet n l) (store_seen s sent outgoing)
+        ≡ record { datagrams = []; outgoing = store_seen s sent outgoing }
     unfolding send_entry
-    takes_none z =
-        record {
-          written = rw (e, get_there s sent outgoing x.number, z) (written_none p.at buf (store_seen s sent outgoing));
-          place = rw e (let q : p.place ≡ p.place + 0 = omega arith in q);
-          short = omega arith;
-          words = refl;
+    sends_gone z = rw (get_there s sent outgoing n, z) refl
+
+    pub sends_packet : is_there s sent n ≡ true → length sent ≡ 64 → length outgoing ≡ 44_800 → TransmitBounds (sent_in sent (n % ceiling)) 30
+        → n < 2 ^ 32 → clock < 2 ^ 60
+        → let v = sent_in sent (n % ceiling) in
+        send_entry clock (model.packet n l) (store_seen s sent outgoing)
+        ≡ record {
+          datagrams = take v.length (drop (v.number % 32 * 1_400) outgoing) ∷ [];
+          outgoing = store_seen s (with_sent sent v.number (taken_packet v clock)) outgoing;
         }
+    unfolding send_entry
+    sends_packet there words slots within fits early =
+        let w = sent_in sent (n % ceiling) in
+        let number = stored_number w n (there_stored s sent outgoing n there) in
+        rw (get_there s sent outgoing n, there)
+        (ap₂ (λ (b : Bytes) (o : Slots model.Packet). record { datagrams = b ∷ []; outgoing = o })
+        (sym (ap (λ (k : ℕ). take w.length (drop (k % 32 * 1_400) outgoing)) number
+        ∙ packet_bytes outgoing (n % 32) w.length slots (omega arith) within.short))
+        (sym (ap (λ (k : ℕ). store_seen s (with_sent sent k (taken_packet w clock)) outgoing) number
+        ∙ mark_there s sent outgoing n there clock words within fits early)))
 
-    module _ (z : is_there s sent x.number ≡ true) (fits : x.number < 2 ^ 32) where
-      takes_slot : (r : Progress) (sent' : List ℕ) (buf' : Bytes)
-          → TakesPacket p (sent_in sent (x.number % ceiling)) clock sent outgoing buf r sent' buf' → TakesEntry s x clock p sent outgoing headers buf r sent' buf'
-      unfolding send_entry
-      takes_slot r sent' buf' t =
-          let n = x.number in
-          let q = sent_in sent (n % ceiling) in
-          let w = kept.packet z in
-          let h = w.short in
-          let number = stored_number q n (there_stored s sent outgoing n z) in
-          let d = packet_bytes outgoing (n % 32) q.length kept.slots (omega arith) h in
-          let l = cut_length outgoing_slot outgoing (n % ceiling) q.length in
-          let a = t.at in
-          let m = ap (λ (ws : List ℕ). store_seen s ws outgoing) (t.marks ∙ ap (λ (k : ℕ). with_sent sent k (taken_packet q clock)) number)
-          ∙ mark_there s sent outgoing n z clock kept.words w fits kept.drive in
-          record {
-            written =
-                rw (e, get_there s sent outgoing n, z, m)
-                (written_one p.at buf r.at buf' (cut outgoing_slot outgoing (n % ceiling) q.length) (insert (store_seen s sent outgoing) n (marked (taken_marks clock) (slot_seen s sent outgoing n)))
-                (t.bytes ∙ ap (λ (k : ℕ). put buf p.at (take q.length (drop (k % 32 * 1_400) outgoing))) number ∙ ap (put buf p.at) d) (omega arith));
-            place = rw e (t.place ∙ (let o : p.place ≡ p.place + 0 = omega arith in o));
-            short = omega arith;
-            words = ap length t.marks ∙ simp length-set;
-          }
-
-      pub takes_packet : (q : Sent) → q ≡ sent_in sent (x.number % ceiling) → (r : Progress) (sent' : List ℕ) (buf' : Bytes)
-          → TakesPacket p q clock sent outgoing buf r sent' buf' → TakesEntry s x clock p sent outgoing headers buf r sent' buf'
-      takes_packet q e r sent' buf' t = takes_slot r sent' buf' (rw e at t)
+-- what the proof of `transmit` cites
+pub ruleset sending = (state_length, packet_length, put_none, append-nil, sends_state, sends_gone, sends_packet)

@@ -1,18 +1,19 @@
 -- What taking one entry puts into the buffer and marks in the records: the model's step on the outgoing store that is seen.
-use Rattle.std.specs.Prelude.{ℕ, ◌+◌, ◌*◌, ◌%◌, ◌^◌, ◌≤◌, ◌<◌, ◌≡◌, List, [], ◌∷◌, Bool, true, cond, ◌&&◌, leb, ltb, length, take, drop, Some}
+use Rattle.std.specs.Prelude.{ℕ, ◌+◌, ◌*◌, ◌%◌, ◌^◌, ◌≤◌, ◌<◌, ◌≡◌, List, [], ◌∷◌, Bool, true, cond, ◌&&◌, leb, ltb, length, take, drop, Option, Some, None}
 use Rattle.model.specs.Lists.{Bytes, joined, on}
 use Rattle.model.specs.Slots.{Slots, ceiling, get, insert}
 use Rattle.model.specs.Stream as model
 use Rattle.model.specs.Driving.{marked, taken_marks}
 use Rattle.records_words.specs.declared.Sent.{Sent}
+use Rattle.records_words.specs.declared.QueuedPacket.{QueuedPacket}
 use Rattle.records_words.specs.declared.Entry.{Entry}
+use Rattle.records_words.specs.declared.Entry.TheVariants.{State, Packet}
 use Rattle.records.specs.declared.Sender.{Sender}
 use Rattle.records_words.specs.Words.{sent_in, is_stored}
 use Rattle.records.specs.Put.{put}
-use Rattle.records.specs.Seen.{seen_outgoing, with_sent}
+use Rattle.records.specs.Seen.{seen_outgoing, with_sent, entry_seen, place_after}
 use Rattle.rtt.specs.Estimate.{nanos}
 use Rattle.take_entry.specs.declared.Progress.{Progress}
-use Rattle.take_batch.specs.Batch.{entry_seen}
 
 -- 01, 'Rules of the records': "lengths are 21 to 1,400 stored"; "transmits are at most 7"
 pub record TransmitBounds (p : Sent) (transmits : ℕ) : Type 0 where
@@ -62,20 +63,23 @@ pub record PutInBuffer (t : TakenFromStore) (at : ℕ) (buf : Bytes) (end : ℕ)
 abbrev pub is_there : Sender → List ℕ → ℕ → Bool
 is_there s sent n = leb s.remote_acked n && (ltb n s.seq && is_stored (sent_in sent (n % ceiling)) n)
 
+abbrev pub found_stored : Sender → List ℕ → ℕ → Option Sent
+found_stored s sent n = cond (is_there s sent n) (Some (sent_in sent (n % ceiling))) None
+
 -- what taking one entry needs: its packet keeps the rules apart from the marks of this take, and there is room for its bytes
 pub record CanTakeEntry (s : Sender) (x : Entry) (clock : ℕ) (p : Progress) (sent : List ℕ) (outgoing headers buf : Bytes) : Type 0 where
   pub words : length sent ≡ 64
-  pub packet : is_there s sent x.number ≡ true → TransmitBounds (sent_in sent (x.number % ceiling)) 30
+  pub packet : (q : QueuedPacket) → x ≡ Packet q → is_there s sent q.number ≡ true → TransmitBounds (sent_in sent (q.number % ceiling)) 30
   pub drive : clock < 2 ^ 60
   pub slots : length outgoing ≡ 44_800
   pub places : length headers ≡ 1_280
-  pub next : x.state ≡ true → p.place < 64
+  pub next : x ≡ State → p.place < 64
   pub room : p.at + 1_400 ≤ length buf
 
 -- one entry is taken; "An entry whose packet has left the store counts but writes nothing"
 pub record TakesEntry (s : Sender) (x : Entry) (clock : ℕ) (p : Progress) (sent : List ℕ) (outgoing headers buf : Bytes) (r : Progress)
     (sent' : List ℕ) (buf' : Bytes) : Type 0 where
   pub written : PutInBuffer (send_entry clock (entry_seen headers p.place x) (store_seen s sent outgoing)) p.at buf r.at buf' (store_seen s sent' outgoing)
-  pub place : r.place ≡ p.place + cond x.state 1 0
+  pub place : r.place ≡ place_after p.place x
   pub short : r.at ≤ p.at + 1_400
   pub words : length sent' ≡ length sent

@@ -1,9 +1,8 @@
 // Taking one entry of a batch: its bytes, and its packet's mark (to_transmit, for one packet).
 #![tactic(auto)]
 
-ghost use Rattle.std.specs.Prelude.{◌≡◌, ◌&&◌, ◌+◌, ◌<◌, ◌≤◌, leb, ltb, length};
-ghost use Rattle.records_words.specs.Words.{is_stored};
-ghost use Rattle.take_entry.specs.Transmit.{taken_packet, TransmitBounds, TakesState, TakesPacket, CanTakeEntry, TakesEntry};
+ghost use Rattle.std.specs.Prelude.{◌≡◌, ◌+◌, ◌<◌, ◌≤◌, length};
+ghost use Rattle.take_entry.specs.Transmit.{found_stored, taken_packet, TransmitBounds, TakesState, TakesPacket, CanTakeEntry, TakesEntry};
 
 use constants::{SENT_WORDS, UDX_HEADER_SIZE};
 use records::{Entry, Sender, Sent};
@@ -12,20 +11,25 @@ use rtt::Nanos;
 // How much of a batch has been put.
 #[derive(Clone, Copy)]
 pub struct Progress {
-    // Bytes put.
+    // Bytes put. A count, since the contracts speak of the whole buffer, and a slice of it would keep it lent.
     pub at: usize,
     // The place of the next state packet in the header store.
     pub place: u32,
 }
 
-// Whether packet n is stored; p is what its slot holds.
-pub fn there(s: Sender, p: Sent, n: u32) -> bool
-    ensures { result ≡ (leb s.remote_acked n && (ltb n s.seq && is_stored p n)) }
+// Packet n, if it is from remote acked to below seq and its slot holds it.
+pub fn find_stored(s: Sender, sent: &[u64; SENT_WORDS], n: u32) -> Option<Sent>
+    ensures { result ≡ found_stored s sent.now n }
 {
-    s.remote_acked <= n && n < s.seq && records::is_stored(p, n)
+    if s.remote_acked <= n && n < s.seq {
+        records::find_sent(sent, n)
+    } else {
+        None
+    }
 }
 
-// The socket driver's mark: the time sent is the drive's clock, and there is one more transmit.
+// The socket driver's mark: the time sent is the drive's clock, and there is one more transmit. A packet that is considered lost gains a
+// transmit as well (crate drive_lost), but it waits and gets no time.
 fn taken_packet(p: Sent, drive: Nanos) -> Sent
     requires { p.transmits ≤ 30 }
     ensures { result ≡ taken_packet p drive.0 }
@@ -73,6 +77,7 @@ fn take_packet(
 }
 
 // Takes one entry: its bytes go to p.at. A packet that has left the store counts but writes nothing, so the next bytes go there.
+#[tactic(auto, using(crate::proofs::TakeOne::sending))]
 pub fn transmit(
     s: Sender,
     x: Entry,
@@ -87,12 +92,14 @@ pub fn transmit(
     ensures { TakesEntry s x drive.0 p sent.old outgoing.now headers.now
         buf.old result sent.new buf.new }
 {
-    if x.state {
-        return take_state(p, headers, buf);
+    match x {
+        Entry::State => take_state(p, headers, buf),
+        Entry::Packet(x) => {
+            if let Some(packet) = find_stored(s, sent, x.number) {
+                take_packet(p, packet, drive, sent, outgoing, buf)
+            } else {
+                p
+            }
+        }
     }
-    let packet = records::get_sent(sent, x.number);
-    if there(s, packet, x.number) {
-        return take_packet(p, packet, drive, sent, outgoing, buf);
-    }
-    p
 }

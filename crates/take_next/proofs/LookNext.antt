@@ -14,19 +14,24 @@ use lib.Seq.{drop-drop}
 use Rattle.model.specs.Lists.{Bytes}
 use Rattle.model.specs.Slots.{ceiling}
 use Rattle.model.specs.Stream as model
+use Rattle.model.specs.Rules.{rules}
 use Rattle.model.specs.Driving.{first_there, look}
+use Rattle.records_words.specs.declared.QueuedPacket.{QueuedPacket}
 use Rattle.records_words.specs.declared.Entry.{Entry}
+use Rattle.records_words.specs.declared.Entry.TheVariants as entry
 use Rattle.records.specs.declared.Sender.{Sender}
 use Rattle.records.specs.declared.Queue.{Queue}
+use Rattle.records.specs.declared.Stream.{Stream}
+use Rattle.records.specs.declared.Totals.{Totals}
 use Rattle.records_words.specs.Words.{sent_in, entry_of}
 use Rattle.records.specs.Cut.{cut, outgoing_slot, header_slot}
-use Rattle.records.specs.Seen.{seen_entries, seen_queue, entry_words, seen, state_words, QueueFormed}
+use Rattle.records.specs.Seen.{seen_entries, seen_queue, entry_words, Lent, seen, state_words, QueueFormed}
 use Rattle.records.proofs.Cut.{cut_length}
 use Rattle.records.proofs.SeenQueue.{left_length, entries_length}
 use Rattle.take_next.specs.declared.Shown.{Shown}
 use Rattle.take_next.specs.declared.Shown.TheVariants.{State, Stored}
 use Rattle.take_entry.specs.Transmit.{store_seen, is_there}
-use Rattle.take_next.specs.Take.{AllTransmitBounds, TakeRules, next_seen, first_shown, Finds, ShowsNext}
+use Rattle.take_next.specs.Take.{AllTransmitBounds, TakeRules, next_seen, first_shown, Finds}
 use Rattle.take_batch.proofs.LeftWords.{entry_at}
 use Rattle.take_entry.proofs.TakeOne.{state-bytes, packet_bytes, get_there, there_low, there_high, there_stored}
 
@@ -77,22 +82,23 @@ module _ (q : Queue) (s : Sender) (sent queue : List ℕ) where
       unfolding seen_queue
       finds x e outgoing headers = rw (lt-ltb 0 q.left (omega arith)) (sym (e outgoing headers) ∙ g.passed outgoing headers)
 
-      pub state_there : next.state ≡ true → Finds q s sent queue (Some (State q.gone))
+      pub state_there : next ≡ entry.State → Finds q s sent queue (Some (State q.gone))
       state_there e =
           finds (Some (State q.gone))
           (λ outgoing headers. ap (first_shown (store_seen s sent outgoing) q.gone) (entry_at (entry_words q queue) i inside headers q.gone) ∙ rw e refl)
 
-      module _ (e : next.state ≡ false) where
-        pub packet_there : is_there s sent next.number ≡ true → Finds q s sent queue (Some (Stored next.number (sent_in sent (next.number % ceiling)).length))
+      module _ (x : QueuedPacket) (e : next ≡ entry.Packet x) where
+        pub packet_there : is_there s sent x.number ≡ true
+            → Finds q s sent queue (Some (Stored x.number (sent_in sent (x.number % ceiling)).length))
         packet_there z =
-            let n = next.number in
+            let n = x.number in
             let k = (sent_in sent (n % ceiling)).length in
             finds (Some (Stored n k))
             (λ outgoing headers.
             ap (first_shown (store_seen s sent outgoing) q.gone) (entry_at (entry_words q queue) i inside headers q.gone)
             ∙ rw (e, get_there s sent outgoing n, z) (ap (λ (m : ℕ). Some (Stored n m)) (cut_length outgoing_slot outgoing (n % ceiling) k)))
 
-        pub packet_gone : is_there s sent next.number ≡ false → Searching (i + 1)
+        pub packet_gone : is_there s sent x.number ≡ false → Searching (i + 1)
         packet_gone z =
             record {
               formed = g.formed;
@@ -102,11 +108,20 @@ module _ (q : Queue) (s : Sender) (sent queue : List ℕ) where
                   let a = entry_at (entry_words q queue) i inside headers q.gone in
                   let first = first_shown (store_seen s sent outgoing) q.gone in
                   ap first (sym (drop-drop 1 i (entries headers)) ∙ ap (drop 1) a)
-                  ∙ sym (ap first a ∙ rw (e, get_there s sent outgoing next.number, z) refl)
+                  ∙ sym (ap first a ∙ rw (e, get_there s sent outgoing x.number, z) refl)
                   ∙ g.passed outgoing headers;
             }
 
+-- what the proof of `next_shown` cites
+pub ruleset searching = (state_there, packet_there, packet_gone, none_there)
+
 -- the bytes that are shown
+
+-- the bytes at a place, as the code reads them from a store
+abbrev pub bytes_at : (outgoing headers : Bytes) → Option Shown → Bytes
+bytes_at outgoing headers None = []
+bytes_at outgoing headers (Some (State place)) = take 20 (drop (place * 20) headers)
+bytes_at outgoing headers (Some (Stored n k)) = take k (drop (n % 32 * 1_400) outgoing)
 
 -- the bytes at a place, which is one of its store
 abbrev pub IsShown : (outgoing headers shown : Bytes) → Option Shown → Type 0
@@ -122,19 +137,19 @@ module _ (s : Sender) (sent : List ℕ) (outgoing headers : Bytes) (stored : All
 
   first_is : (ws : List ℕ) → place + state_words ws ≤ 64 → There ws
   first_is [] h = refl
-  first_is (w ∷ ws) h = go (entry_of w).state refl (first_is ws)
+  first_is (w ∷ ws) h = go (entry_of w) refl (first_is ws)
     where
-      n : ℕ
-      n = (entry_of w).number
-
-      go : (b : Bool) → (entry_of w).state ≡ b → (place + state_words ws ≤ 64 → There ws) → There (w ∷ ws)
-      go true e rest =
+      go : (x : Entry) → entry_of w ≡ x → (place + state_words ws ≤ 64 → There ws) → There (w ∷ ws)
+      go entry.State e rest =
           let below : place < 64 = let k = rw e at h in omega arith in
           rw e (below, refl)
-      go false e rest = rw e (there (is_there s sent n) refl (rest (rw e at h)))
+      go (entry.Packet x) e rest = rw e (there (is_there s sent n) refl (rest (rw e at h)))
         where
+          n : ℕ
+          n = x.number
+
           there : (b : Bool) → is_there s sent n ≡ b → There ws
-              → let q = model.packet n (entry_of w).length ∷ seen_entries headers place ws in
+              → let q = model.packet n x.length ∷ seen_entries headers place ws in
               IsShown outgoing headers (first_there (store_seen s sent outgoing) q) (first_shown (store_seen s sent outgoing) place q)
           there true z r =
               let k = (sent_in sent (n % ceiling)).length in
@@ -142,46 +157,50 @@ module _ (s : Sender) (sent : List ℕ) (outgoing headers : Bytes) (stored : All
               rw (get_there s sent outgoing n, z, cut_length outgoing_slot outgoing (n % ceiling) k) (short, refl)
           there false z r = rw (get_there s sent outgoing n, z) r
 
-module _ {q : Queue} {s : Sender} {sent queue : List ℕ} {outgoing headers : Bytes} (kept : TakeRules q s sent queue outgoing headers) where
-  is_shown : (x : Option Shown) → Finds q s sent queue x → IsShown outgoing headers (next_seen q s sent queue outgoing headers) x
-  unfolding seen_queue
-  is_shown x f = rw (f outgoing headers) (go (ltb 0 q.left))
-    where
-      all : IsShown outgoing headers (first_there (store_seen s sent outgoing) (seen_entries headers q.gone (entry_words q queue)))
-          (first_shown (store_seen s sent outgoing) q.gone (seen_entries headers q.gone (entry_words q queue)))
-      all =
-          let a = kept.formed.states in
-          let b = kept.formed.places in
-          first_is s sent outgoing headers kept.stored q.gone (entry_words q queue) (omega arith)
+module _ (q : Queue) (s : Sender) (sent queue : List ℕ) (outgoing headers : Bytes) where
+  -- what the search finds
+  abbrev found : Option Shown
+  found = cond (ltb 0 q.left) (first_shown (store_seen s sent outgoing) q.gone (seen_queue q queue headers).entries) None
 
-      go : (b : Bool)
-          → IsShown outgoing headers (cond b (first_there (store_seen s sent outgoing) (seen_entries headers q.gone (entry_words q queue))) [])
-          (cond b (first_shown (store_seen s sent outgoing) q.gone (seen_entries headers q.gone (entry_words q queue))) None)
-      go true = all
-      go false = refl
+  module _ (kept : TakeRules q s sent queue outgoing headers) where
+    is_shown : (x : Option Shown) → x ≡ found → IsShown outgoing headers (next_seen q s sent queue outgoing headers) x
+    unfolding seen_queue
+    is_shown x f = rw f (go (ltb 0 q.left))
+      where
+        all : IsShown outgoing headers (first_there (store_seen s sent outgoing) (seen_entries headers q.gone (entry_words q queue)))
+            (first_shown (store_seen s sent outgoing) q.gone (seen_entries headers q.gone (entry_words q queue)))
+        all =
+            let a = kept.formed.states in
+            let b = kept.formed.places in
+            first_is s sent outgoing headers kept.stored q.gone (entry_words q queue) (omega arith)
 
-  shows : (part : Bytes) → part ≡ next_seen q s sent queue outgoing headers → ShowsNext q s sent queue outgoing headers part
-  unfolding look seen seen_queue
-  shows part z =
-      record {
-        next = z;
-        look = λ st t l le r. z ∙ rw (r, le.counts, le.sender, le.packets, le.words, le.store, le.heads) refl;
-      }
+        go : (b : Bool)
+            → IsShown outgoing headers (cond b (first_there (store_seen s sent outgoing) (seen_entries headers q.gone (entry_words q queue))) [])
+            (cond b (first_shown (store_seen s sent outgoing) q.gone (seen_entries headers q.gone (entry_words q queue))) None)
+        go true = all
+        go false = refl
 
-  pub shows_none : Finds q s sent queue None → ShowsNext q s sent queue outgoing headers []
-  shows_none f = shows [] (sym (is_shown None f))
+    -- what is next is at the place found
+    pub shown_bytes : next_seen q s sent queue outgoing headers ≡ bytes_at outgoing headers found
+    shown_bytes = go found (is_shown found refl)
+      where
+        go : (x : Option Shown) → IsShown outgoing headers (next_seen q s sent queue outgoing headers) x
+            → next_seen q s sent queue outgoing headers ≡ bytes_at outgoing headers x
+        go None i = i
+        go (Some (State place)) i = i.1 ∙ sym (state-bytes headers place kept.places i.0)
+        go (Some (Stored n k)) i = i.1 ∙ sym (packet_bytes outgoing (n % 32) k kept.slots (omega arith) i.0)
 
-  module _ (place : ℕ) (f : Finds q s sent queue (Some (State place))) where
-    pub place_below : place < 64
-    place_below = (is_shown (Some (State place)) f).0
+    -- that place is one of its store
+    pub place_below : (place : ℕ) → Some (State place) ≡ found → place < 64
+    place_below place f = (is_shown (Some (State place)) f).0
 
-    pub shows_state : (part : Bytes) → part ≡ take 20 (drop (place * 20) headers) → ShowsNext q s sent queue outgoing headers part
-    shows_state part e = shows part (e ∙ state-bytes headers place kept.places place_below ∙ sym (is_shown (Some (State place)) f).1)
+    pub length_within : (n k : ℕ) → Some (Stored n k) ≡ found → k ≤ 1_400
+    length_within n k f = (is_shown (Some (Stored n k)) f).0
 
-  module _ (n k : ℕ) (f : Finds q s sent queue (Some (Stored n k))) where
-    pub length_within : k ≤ 1_400
-    length_within = (is_shown (Some (Stored n k)) f).0
+pub looks : (st : Stream) (t : Totals) (l : Lent) → rules (seen st t l) ≡ true
+    → look (seen st t l) ≡ next_seen st.queue st.sender l.sent l.queue l.outgoing l.headers
+unfolding look seen seen_queue
+looks st t l r = rw r refl
 
-    pub shows_stored : (part : Bytes) → part ≡ take k (drop (n % 32 * 1_400) outgoing) → ShowsNext q s sent queue outgoing headers part
-    shows_stored part e =
-        shows part (e ∙ packet_bytes outgoing (n % 32) k kept.slots (omega arith) length_within ∙ sym (is_shown (Some (Stored n k)) f).1)
+-- what the proof of `look_next` cites
+pub ruleset showing = (shown_bytes, looks)

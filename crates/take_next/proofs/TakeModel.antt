@@ -8,7 +8,7 @@ use mathlib.Core.List.{List, [], ◌∷◌, ◌++◌}
 use mathlib.Core.Option.{Option, none, some}
 use mathlib.Core.Bool.{Bool, true, false, cond}
 use lib.Dec.{eqb}
-use borrow.Author.Tests.{eqb-true, eqb-false, eq-eqb, ne_eqb}
+use borrow.Author.Tests.{eqb-true, eqb-false}
 use lib.ListN.{length, take, drop}
 use Rattle.model.specs.Lists.{Bytes, joined, on}
 use Rattle.model.specs.Slots.{Slots, get}
@@ -19,12 +19,12 @@ use Rattle.records.specs.declared.Sender.{Sender}
 use Rattle.records.specs.declared.Stream.{Stream}
 use Rattle.records.specs.declared.Totals.{Totals}
 use Rattle.records.specs.Put.{put}
-use Rattle.records.specs.Seen.{seen_outgoing, seen_queue, entry_words, Lent, seen, state_words}
+use Rattle.records.specs.Seen.{seen_outgoing, seen_queue, entry_words, Lent, seen, state_words, QueueFormed}
 use Rattle.records.proofs.SeenQueue.{queue_take, queue_last}
-use Rattle.records.proofs.FormedQueue.{formed_take, formed_empty}
+use Rattle.records.proofs.FormedQueue.{formed_take}
 use Rattle.take_entry.specs.declared.Progress.{Progress}
 use Rattle.take_entry.specs.Transmit.{TakenFromStore, send_entry, store_seen, PutInBuffer}
-use Rattle.take_next.specs.Take.{Lends, send_loop, taken_queue, taken_stream, taken_lent, Took, Takes, TakesQueue}
+use Rattle.take_next.specs.Take.{Lends, send_loop, taken_queue, taken_stream, taken_lent, Took, Takes}
 use Rattle.take_next.proofs.TakeSome.{sent_entry, Going}
 
 -- the model's end with another outgoing store
@@ -87,15 +87,11 @@ queue_taken q queue headers k place here most left fits e = go (eqb (q.left - k)
         ∙ ap₂ {C = model.Queue} (λ (j l : ℕ). record { entries = drop j (seen_queue q queue headers).entries; left = l }) b d
     go false z = let a = eqb-false (q.left - k) 0 z in queue_take q (shorter q k place) queue headers k (omega (arith, a)) left fits refl refl e
 
-pub takes_last : (q : Queue) (k place : ℕ) → q.left - k ≡ 0 → TakesQueue q k place emptied
-takes_last q k place e = record { queue = rw (eq-eqb (q.left - k) 0 e) refl; formed = λ queue f p. formed_empty emptied queue refl refl refl refl }
-
-pub takes_more : (q : Queue) (k place : ℕ) → q.left - k ≢ 0 → TakesQueue q k place (shorter q k place)
-takes_more q k place ne =
-    record {
-      queue = rw (ne_eqb (q.left - k) 0 ne) refl;
-      formed = λ queue f p. formed_take q (shorter q k place) queue f k (omega (arith, ne)) refl refl refl p;
-    }
+-- more are left: their state packets are from `place` on
+pub places_left : (q : Queue) (k place : ℕ) (queue : List ℕ) → q.left - k ≢ 0 → QueueFormed q queue
+    → place ≡ q.gone + state_words (take k (entry_words q queue))
+    → place + state_words (entry_words (shorter q k place) queue) ≡ q.states
+places_left q k place queue ne f p = sym (formed_take q (shorter q k place) queue f k (omega (arith, ne)) refl refl refl p).places
 
 -- the end after it
 
@@ -134,21 +130,25 @@ module _ (q : Queue) (s : Sender) (k clock : ℕ) (sent queue : List ℕ) (outgo
       marks : seen_outgoing st.sender.remote_acked st.sender.seq sent' l.outgoing ≡ sends.outgoing
       marks = rw (e.sender, e.store) w.marks
 
-  pub ends : (i : ℕ) → Going q s k clock sent queue outgoing headers buf sent' buf' p i → k ≤ i → Takes q s k clock sent queue outgoing headers buf p sent' buf'
-  unfolding seen_queue
-  ends i g over =
-      let a = g.turns in
-      let e : i ≡ k = omega arith in
-      let f = g.ready.kept.formed in
-      let c = f.count in
-      let d = g.long in
-      let m = g.ready.most in
-      let h = g.short in
-      let place = g.place ∙ ap (λ (j : ℕ). q.gone + state_words (take j (entry_words q queue))) e in
-      record {
-        place = place;
-        room = omega arith;
-        took =
-            λ st t l le z.
-            took st t l le z (rw (← e) g.written) (queue_taken q queue headers k p.place g.ready.some g.ready.entries f.left (omega arith) place);
-      }
+pub ends : {q : Queue} {s : Sender} {k clock : ℕ} {sent queue : List ℕ} {outgoing headers buf : Bytes}
+    {p : Progress} {sent' : List ℕ} {buf' : Bytes} {i : ℕ}
+    → Going q s k clock sent queue outgoing headers buf sent' buf' p i → k ≤ i
+    → Takes q s k clock sent queue outgoing headers buf p sent' buf'
+unfolding seen_queue
+ends {q} {s} {k} {clock} {sent} {queue} {outgoing} {headers} {buf} {p} {sent'} {buf'} {i} g over =
+    let a = g.turns in
+    let e : i ≡ k = omega arith in
+    let f = g.ready.kept.formed in
+    let c = f.count in
+    let d = g.long in
+    let m = g.ready.most in
+    let h = g.short in
+    let place = g.place ∙ ap (λ (j : ℕ). q.gone + state_words (take j (entry_words q queue))) e in
+    record {
+      place = place;
+      room = omega arith;
+      took =
+          λ st t l le z.
+          took q s k clock sent queue outgoing headers buf p sent' buf' st t l le z (rw (← e) g.written)
+          (queue_taken q queue headers k p.place g.ready.some g.ready.entries f.left (omega arith) place);
+    }

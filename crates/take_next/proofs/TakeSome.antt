@@ -21,13 +21,12 @@ use Rattle.records.specs.declared.Queue.{Queue}
 use Rattle.records_words.specs.Words.{sent_in, entry_of}
 use Rattle.records.specs.Cut.{outgoing_slot}
 use Rattle.records.specs.Put.{put}
-use Rattle.records.specs.Seen.{seen_entries, entry_words, state_words}
+use Rattle.records.specs.Seen.{entry_seen, place_after, seen_entries, entry_words, state_words}
 use Rattle.records.proofs.Cut.{cut_length}
 use Rattle.records.proofs.Put.{put_put}
 use Rattle.records.proofs.SeenOutgoing.{outgoing_length}
 use Rattle.records.proofs.SeenQueue.{left_length}
 use Rattle.take_entry.specs.declared.Progress.{Progress}
-use Rattle.take_batch.specs.Batch.{entry_seen}
 use Rattle.take_entry.specs.Transmit.{TakenFromStore, send_entry, store_seen, is_there, PutInBuffer, CanTakeEntry, TakesEntry}
 use Rattle.take_next.specs.Take.{AllTransmitBounds, send_loop, CanTake}
 use Rattle.take_batch.proofs.LeftWords.{entry_at, states_next, states_less}
@@ -120,7 +119,7 @@ pub record Going (q : Queue) (s : Sender) (k clock : ℕ) (sent₀ queue : List 
   pub words : length sent ≡ 64
   pub sized : length buf ≡ length buf₀
 
-module _ (q : Queue) (s : Sender) (k clock : ℕ) (sent₀ queue : List ℕ) (outgoing headers buf₀ : Bytes) where
+module _ {q : Queue} {s : Sender} {k clock : ℕ} {sent₀ queue : List ℕ} {outgoing headers buf₀ : Bytes} where
   pub starts : CanTake q s k clock sent₀ queue outgoing headers buf₀ → length queue ≡ 128 → length sent₀ ≡ 64
       → Going q s k clock sent₀ queue outgoing headers buf₀ sent₀ buf₀ (record { at = 0; place = q.gone }) 0
   unfolding send_loop
@@ -137,7 +136,8 @@ module _ (q : Queue) (s : Sender) (k clock : ℕ) (sent₀ queue : List ℕ) (ou
         sized = refl;
       }
 
-  module _ (sent : List ℕ) (buf : Bytes) (p : Progress) (i : ℕ) (g : Going q s k clock sent₀ queue outgoing headers buf₀ sent buf p i) (more : i < k) where
+  module _ {sent : List ℕ} {buf : Bytes} {p : Progress} {i : ℕ} (g : Going q s k clock sent₀ queue outgoing headers buf₀ sent buf p i)
+      (more : i < k) where
     -- the entry that is taken next
     abbrev next : Entry
     next = entry_of (get_or (entry_words q queue) i 0)
@@ -154,11 +154,11 @@ module _ (q : Queue) (s : Sender) (k clock : ℕ) (sent₀ queue : List ℕ) (ou
     next_kept =
         let r = g.ready in
         let f = r.kept.formed in
-        let n = next.number in
         record {
           words = g.words;
           packet =
-              λ z.
+              λ x e z.
+              let n = x.number in
               let w = g.within n (slot_seen s sent outgoing n) (get_there s sent outgoing n ∙ rw z refl) in
               let a = w.0 in
               let b = w.1 in
@@ -178,9 +178,10 @@ module _ (q : Queue) (s : Sender) (k clock : ℕ) (sent₀ queue : List ℕ) (ou
           room = let a = g.short in let b = g.sized in let d = r.room in let e = r.most in omega arith;
         }
 
-    pub again : (r : Progress) (sent' : List ℕ) (buf' : Bytes) → TakesEntry s next clock p sent outgoing headers buf r sent' buf' → length buf' ≡ length buf
+    pub again : {r : Progress} {sent' : List ℕ} {buf' : Bytes}
+        → TakesEntry s next clock p sent outgoing headers buf r sent' buf' → length buf' ≡ length buf
         → Going q s k clock sent₀ queue outgoing headers buf₀ sent' buf' r (i + 1)
-    again r sent' buf' t same =
+    again {r} {sent'} {buf'} t same =
         let ws = entry_words q queue in
         let es = seen_entries headers q.gone ws in
         let d = send_loop clock i es (store_seen s sent₀ outgoing) in
@@ -192,9 +193,8 @@ module _ (q : Queue) (s : Sender) (k clock : ℕ) (sent₀ queue : List ℕ) (ou
         let e : send_loop clock (i + 1) es (store_seen s sent₀ outgoing) ≡ then d (send_entry clock x (store_seen s sent outgoing)) =
         rw (add-one, g.place) (send_next clock i es _ _ (store_seen s sent₀ outgoing) (entry_at ws i inside headers q.gone))
         ∙ ap (λ (o : Slots model.Packet). then d (send_entry clock x o)) (sym g.written.marks) in
-        let n : state_words (take (i + 1) ws) ≡ state_words (take i ws) + cond next.state 1 0 = ap (λ (j : ℕ). state_words (take j ws)) (add-one i) ∙ states_next ws i inside in
-        let f = g.place in
-        let o = t.place in
+        let n : q.gone + state_words (take (i + 1) ws) ≡ place_after (q.gone + state_words (take i ws)) next =
+        ap (λ (j : ℕ). q.gone + state_words (take j ws)) (add-one i) ∙ states_next ws i inside q.gone in
         let u : suc (7 + i) ≡ 7 + (i + 1) = omega arith in
         record {
           ready = g.ready;
@@ -204,7 +204,7 @@ module _ (q : Queue) (s : Sender) (k clock : ℕ) (sent₀ queue : List ℕ) (ou
               rw e
               (written_then d (send_entry clock x (store_seen s sent outgoing)) buf₀ p.at buf r.at buf' (store_seen s sent outgoing) (store_seen s sent' outgoing) g.written
               t.written (omega arith));
-          place = omega arith;
+          place = t.place ∙ ap (λ (k : ℕ). place_after k next) g.place ∙ sym n;
           short = omega arith;
           within =
               rw (t.written.marks, ← u)

@@ -1,5 +1,5 @@
 // Taking the entries of the next batch, one after another: their bytes, with the mark that the socket driver gives (to_transmit); and look,
-// the next datagram.
+// the next datagram. Words and stores are lent one by one: only the stored packets' words and the buffer are written.
 #![tactic(auto)]
 
 ghost use Rattle.std.specs.Prelude.{◌≡◌, ◌≤◌, length};
@@ -17,10 +17,10 @@ ghost use Rattle.take_next.specs.Take.{
 };
 
 use constants::{QUEUE_WORDS, SENT_WORDS};
-use records::{Queue, Sender};
+use records::{Entry, Queue, Sender};
 use rtt::Nanos;
 use take_batch::{batch, head_length, left_entry};
-use take_entry::{Progress, there, transmit};
+use take_entry::{Progress, find_stored, transmit};
 
 // the next batch
 
@@ -45,6 +45,7 @@ fn to_transmit(
         at: 0,
         place: q.gone,
     };
+    // By index, here and in `next_shown`: a slice would be of words, whose bits only records_words knows.
     for i in 0..k {
         let x = left_entry(q, queue, i);
         p = transmit(s, x, p, drive, sent, outgoing, headers, buf);
@@ -54,18 +55,14 @@ fn to_transmit(
 
 // The queue without its first k entries; `place` is that of the next state packet. After the last entry it is empty, and words and places
 // are used from the start again.
+#[tactic(auto, using(crate::proofs::TakeModel::places_left, records::proofs::SeenQueue::words_rest))]
 fn taken_queue(q: Queue, k: u32, place: u32) -> Queue
     requires { k ≤ q.left }
     ensures { TakesQueue q k place result }
 {
     let left = q.left - k;
     if left == 0 {
-        return Queue {
-            count: 0,
-            left: 0,
-            states: 0,
-            gone: 0,
-        };
+        return Queue::default();
     }
     Queue {
         left,
@@ -129,12 +126,14 @@ pub fn next_batch(
 pub enum Shown {
     // A state packet's, at this place of the header store.
     State(u32),
-    // A stored packet's: the first `length` bytes of its slot of the outgoing store.
+    // A stored packet's: the first `length` bytes of its slot of the outgoing store. No `QueuedPacket`: the length is that of the packet as it is
+    // stored.
     Stored { number: u32, length: u32 },
 }
 
 // The first entry left to take whose packet is there. A state packet always is, so the search passes none, and finds the first one queued,
 // whose place is `gone`.
+#[tactic(auto, using(crate::proofs::LookNext::searching))]
 pub fn next_shown(
     q: Queue,
     s: Sender,
@@ -145,12 +144,10 @@ pub fn next_shown(
     ensures { Finds q s sent.now queue.now result }
 {
     for n in 0..q.left {
-        let x = left_entry(q, queue, n);
-        if x.state {
+        let Entry::Packet(x) = left_entry(q, queue, n) else {
             return Some(Shown::State(q.gone));
-        }
-        let p = records::get_sent(sent, x.number);
-        if there(s, p, x.number) {
+        };
+        if let Some(p) = find_stored(s, sent, x.number) {
             return Some(Shown::Stored {
                 number: x.number,
                 length: p.length,
@@ -160,7 +157,8 @@ pub fn next_shown(
     None
 }
 
-// The next datagram, as a part of the store that holds it; an empty part if none is left.
+// The next datagram, as a part of the store that holds it; "an empty part when nothing is left to take".
+#[tactic(auto, using(crate::proofs::LookNext::showing))]
 pub fn look_next<'a>(
     q: Queue,
     s: Sender,

@@ -1,4 +1,5 @@
-// Sending: the pieces of a write are stored and queued one after another while they may go (poll_write over send_data_packet).
+// Sending: the pieces of a write are stored and queued one after another while they may go (poll_write over send_data_packet). Only the
+// words and the store that a piece writes are lent.
 #![tactic(auto)]
 
 ghost use Rattle.std.specs.Prelude.{length};

@@ -51,7 +51,7 @@ module _ {o r : Outbox} {remote ack : ℕ} {piece sent queue outgoing sent' queu
       sent_back (new_packet o.sender.seq (length piece)) (omega (arith, room.short)) (omega arith) (omega (arith, room.seq)) (λ t e. absurd (cc))
 
   entry_said : entry_of (entry_word (new_entry o.sender.seq (length piece))) ≡ new_entry o.sender.seq (length piece)
-  entry_said = entry_back (new_entry o.sender.seq (length piece)) (omega (arith, room.short)) (omega (arith, room.seq))
+  entry_said = entry_back _ (omega (arith, room.short)) (omega (arith, room.seq))
 
   packet_length : length (header_bytes (header_of 1 remote o.sender.seq ack) ++ piece) ≡ length piece + 20
   packet_length = rw (length-append, header_length (header_of 1 remote o.sender.seq ack)) (omega arith)
@@ -78,8 +78,7 @@ module _ {o r : Outbox} {remote ack : ℕ} {piece sent queue outgoing sent' queu
       let more : length piece + 20 ≡ 20 + length piece = omega arith in
       let fits : o.queue.count < length queue = omega (arith, room.queue) in
       ap₂ (λ (q : Queue) (words : List ℕ). seen_queue q words headers) x.places x.queue_words
-      ∙ queue_packet o.queue (pushed_queue o.queue) queue fits (new_entry o.sender.seq (length piece)) entry_said
-      rest rest refl refl headers refl
+      ∙ queue_packet o.queue (pushed_queue o.queue) queue fits rest rest refl refl _ entry_said headers
       ∙ ap (λ (size : ℕ). pushed (model.packet o.sender.seq size) (seen_queue o.queue queue headers)) more
 
   totals_seen : seen_totals r.totals ≡ count_sent (length piece) (seen_totals o.totals)
@@ -101,8 +100,7 @@ module _ {o r : Outbox} {remote ack : ℕ} {piece sent queue outgoing sent' queu
       let fits : o.queue.count < length queue = omega (arith, room.queue) in
       rw (x.places, x.queue_words)
       (queue_said (pushed_queue o.queue) (set queue o.queue.count (entry_word (new_entry o.sender.seq (length piece))))
-      (formed_packet o.queue (pushed_queue o.queue) queue (queue_says o.queue queue f) fits room.queue (new_entry o.sender.seq (length piece))
-      entry_said rest rest refl refl refl refl))
+      (formed_packet o.queue (pushed_queue o.queue) queue (queue_says o.queue queue f) fits room.queue rest rest refl refl _ entry_said refl))
 
   pub sent_length : length sent' ≡ 64
   sent_length = ap length x.sent_words ∙ simp length-set sent_long

@@ -5,6 +5,7 @@ use Rattle.packet.specs.declared.header.Header.{Header}
 use Rattle.packet.specs.Header.{header_bytes}
 use Rattle.records_words.specs.declared.Sent.{Sent}
 use Rattle.records_words.specs.declared.Entry.{Entry}
+use Rattle.records_words.specs.declared.Entry.TheVariants.{Packet}
 use Rattle.records.specs.declared.Sender.{Sender}
 use Rattle.records.specs.declared.Queue.{Queue}
 use Rattle.records.specs.declared.Stream.{Stream}
@@ -23,7 +24,7 @@ abbrev pub new_packet : (n payload : ℕ) → Sent
 new_packet n payload = record { number = n; length = payload + 20; transmits = 0; waiting = false; sent_at = None }
 
 abbrev pub new_entry : (n payload : ℕ) → Entry
-new_entry n payload = record { number = n; length = payload + 20; state = false }
+new_entry n payload = Packet (record { number = n; length = payload + 20 })
 
 abbrev pub sent_sender : Sender → ℕ → Sender
 sent_sender s payload =

@@ -1,7 +1,8 @@
-// One piece of a write: checks whether it goes, stores its packet, queues its entry and updates the numbers (send_data_packet).
+// One piece of a write: checks whether it goes, stores its packet, queues its entry and updates the numbers (send_data_packet). A piece is
+// at most 1,380 bytes, as write_all cuts it; its length is that of its slice and has no type of its own.
 #![tactic(auto)]
 
-ghost use Rattle.std.specs.Prelude.{◌≡◌, ◌+◌, ◌*◌, ◌%◌, ◌<◌, ◌≤◌, ◌++◌, length, nat_le};
+ghost use Rattle.std.specs.Prelude.{◌≡◌, ◌*◌, ◌%◌, ◌<◌, ◌≤◌, ◌++◌, length};
 ghost use Rattle.packet.specs.Header.{header_bytes};
 ghost use Rattle.records.specs.Put.{put};
 ghost use Rattle.write_piece.specs.Piece.{
@@ -21,7 +22,7 @@ use constants::{
     QUEUE_WORDS, RECV_WIN, SENT_WORDS, SEQ_END, STORE_SLOTS, UDX_HEADER_DATA, UDX_HEADER_SIZE,
 };
 use packet::Header;
-use records::{Entry, Queue, Sender, Sent, Totals};
+use records::{Entry, Queue, QueuedPacket, Sender, Sent, Totals};
 
 const HEADER: u32 = UDX_HEADER_SIZE as u32;
 
@@ -65,11 +66,10 @@ fn new_entry(n: u32, payload: usize) -> Entry
     requires { payload ≤ 1_380 }
     ensures { result ≡ new_entry n payload }
 {
-    Entry {
+    Entry::Packet(QueuedPacket {
         number: n,
         length: payload as u32 + HEADER,
-        state: false,
-    }
+    })
 }
 
 // The sender with one more packet: inflight grows by payload + 20.
@@ -108,20 +108,12 @@ fn counted_totals(t: Totals, payload: usize) -> Totals
     }
 }
 
-// inflight + payload is at most the window; by subtraction, so that no sum can wrap.
-fn payload_fits(inflight: u32, payload: usize, cwnd: u32) -> bool
-    requires { payload ≤ 1_380 }
-    ensures { result ≡ nat_le (inflight + payload) cwnd }
-{
-    inflight <= cwnd && payload as u32 <= cwnd - inflight
-}
-
 // Whether a piece goes: send_data_packet's test, and 01's ceilings.
 pub fn goes(s: Sender, payload: usize) -> bool
     requires { payload ≤ 1_380 }
     ensures { result ≡ may_go s payload }
 {
-    payload_fits(s.inflight, payload, s.cwnd)
+    records::fits(s.inflight, payload as u32, s.cwnd)
         && s.seq.saturating_sub(s.remote_acked) < STORE_SLOTS
         && s.seq < SEQ_END
 }
@@ -136,7 +128,7 @@ fn store_packet(sent: &mut [u64; SENT_WORDS], outgoing: &mut [u8], h: Header, pi
     records::put_sent(sent, new_packet(h.seq, piece.len()));
 }
 
-// The Rust's send_data_packet.
+// The Rust's send_data_packet. It is lent only the words and the store that it writes.
 pub fn send_data_packet(
     o: Outbox,
     remote: u32,

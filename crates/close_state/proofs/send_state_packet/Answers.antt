@@ -7,4 +7,4 @@ use Rattle.close_state.proofs.send_state_packet.Goals as goal
 pub returns : goal.returns
 returns c =
     state_queued _ _ _ c.requires (search rules) _ _ _ _ _ _ _ _ c.pushed_state.ensures c.counted_state.ensures
-    (rw c.state_entry.ensures at c.put_entry.ensures) (rw c.state_header-h.ensures at c.put_header.ensures)
+    c.put_entry.ensures (rw c.state_header-h.ensures at c.put_header.ensures)

@@ -3,5 +3,4 @@ use Rattle.deliver_all.proofs.Whole.{handles}
 use Rattle.deliver_all.proofs.handle_incoming.Goals as goal
 
 pub returns : goal.returns
-returns c =
-    rw c.on_ack.ensures (handles c.requires c.before_data-b.ensures c.on_data-d.ensures)
+returns c = search handles

@@ -1,9 +1,10 @@
 -- `drive_timer::due` meets its contract: each branch has decided the first test.
-use Rattle.drive_timer.proofs.TimerLaws.{is_due, not_due}
+use Rattle.std.proofs.Common.{arith}
+use Rattle.drive_timer.proofs.TimerLaws.{tested}
 use Rattle.drive_timer.proofs.due.Goals as goal
 
-pub returns-then-t-clock : goal.returns-then-t-clock
-returns-then-t-clock c = is_due _ _ _ c.if-t-clock.true
+pub returns-then-le : goal.returns-then-le
+returns-then-le c = let e = c.le.ensures in let i = c.if-le.true in tested c.args.t c.args.clock.0 c.args.s _ (grind arith)
 
-pub returns-else-t-clock : goal.returns-else-t-clock
-returns-else-t-clock c = not_due _ _ _ c.if-t-clock.false
+pub returns-else-le : goal.returns-else-le
+returns-else-le c = let e = c.le.ensures in let i = c.if-le.false in tested c.args.t c.args.clock.0 c.args.s _ (grind arith)

@@ -1,3 +1,4 @@
+-- The loop's invariant: k entries of one size are counted, and the total is k plus what is still to count.
 use Prim.Native.Nat.{◌+◌, ◌-◌}
 use mathlib.Core.Path.{◌≡◌}
 use Rattle.records.specs.Seen.{entry_words}

@@ -1,3 +1,4 @@
+-- The loop's invariant: the packets of the entries passed have left the store.
 use Rattle.take_next.proofs.LookNext.{Searching}
 use Rattle.take_next.proofs.next_shown.Given as goal
 

@@ -6,16 +6,14 @@ use Rattle.take_next.proofs.TakeModel.{ends}
 use Rattle.take_next.proofs.to_transmit.Goals as goal
 
 pub loop-i-init : goal.loop-i-init
-loop-i-init c = starts _ _ _ _ _ _ _ _ _ c.requires (search rules) (search rules)
+loop-i-init c = starts c.requires (search rules) (search rules)
 
 pub transmit-p-requires : goal.transmit-p-requires
-transmit-p-requires c =
-    rw c.left_entry-x.ensures (next_kept _ _ _ _ _ _ _ _ _ _ _ _ _ c.loop-i.invariant c.loop-i-test.true)
+transmit-p-requires c = rw c.left_entry-x.ensures (next_kept c.loop-i.invariant c.loop-i-test.true)
 
 pub loop-i-preserved : goal.loop-i-preserved
 loop-i-preserved c =
-    again _ _ _ _ _ _ _ _ _ _ _ _ _ c.loop-i.invariant c.loop-i-test.true _ _ _
-    (rw c.left_entry-x.ensures at c.transmit-p.ensures) c.transmit-p.auto.buf
+    again c.loop-i.invariant c.loop-i-test.true (rw c.left_entry-x.ensures at c.transmit-p.ensures) c.transmit-p.auto.buf
 
 pub returns : goal.returns
-returns c = ends _ _ _ _ _ _ _ _ _ _ _ _ _ c.loop-i.invariant c.loop-i-test.false
+returns c = ends c.loop-i.invariant c.loop-i-test.false

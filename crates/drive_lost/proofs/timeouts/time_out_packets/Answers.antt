@@ -2,29 +2,26 @@
 -- result of the whole loop.
 use mathlib.Core.Path.{sym, ◌∙◌}
 use native.Mathlib.Omega.{arith}
+use borrow.Author.Tests.{not-true}
 use Rattle.drive_lost.proofs.TimeOut.{passes, leaves_again, ends_failed, ends}
-use Rattle.drive_lost.proofs.timeouts.time_out_packets.Goals.{then-in_flight+else-p, else-in_flight}
+use Rattle.drive_lost.proofs.timeouts.time_out_packets.Goals.{in-Some+then-not-p+else-p, in_default}
 use Rattle.drive_lost.proofs.timeouts.time_out_packets.Goals as goal
 
 pub returns-then-p : goal.returns-then-p
-returns-then-p c =
-    let p = c.get_sent-p.ensures in
-    ends_failed c.loop-n.invariant c.loop-n-test.true
-    (rw p at (sym c.in_flight.ensures ∙ c.if-in_flight.true)) (rw p at c.if-p.true)
+returns-then-p c = ends_failed c.loop-n.invariant c.loop-n-test.true (grind arith) (grind arith) (grind arith)
 
 pub loop-n-preserved : goal.loop-n-preserved
 loop-n-preserved c =
-    elim c.if-in_flight.branch [
-      | then-in_flight+else-p w ↦
+    elim c.match-find_sent.branch [
+      | in-Some+then-not-p+else-p w ↦
           rw (w.sent-is, w.inflight-is)
           (leaves_again c.loop-n.invariant c.loop-n-test.true (omega arith)
-          c.get_sent-p.result w.lost_packet.result c.get_sent-p.ensures
-          (sym c.in_flight.ensures ∙ w.if-in_flight.true) w.if-p.false
+          w.in-Some.p w.lost_packet.result (sym c.find_sent.ensures ∙ w.in-Some.is)
+          (not-true _ w.if-not-p.true) w.if-p.false
           w.lost_packet.ensures _ w.put_sent.ensures _ w.saturating_sub-inflight.ensures)
-      | else-in_flight w ↦
+      | in_default w ↦
           rw (w.sent-is, w.inflight-is)
-          (passes c.loop-n.invariant c.loop-n-test.true
-          (rw c.get_sent-p.ensures at (sym c.in_flight.ensures ∙ w.if-in_flight.false)))
+          (passes c.loop-n.invariant c.loop-n-test.true (grind arith))
     ]
 
 pub returns : goal.returns
