@@ -16,23 +16,23 @@ use Rattle.error.specs.declared.Refusal.{Refusal}
 use Rattle.error.specs.declared.Refusal.TheVariants as refusal
 use Rattle.error.specs.declared.Outcome.TheVariants.{Ready}
 use Rattle.model.specs.Lists.{Bytes}
+use Rattle.model.specs.Stream.{End}
 use Rattle.model.specs.Answers.{Answer, answered}
 use Rattle.model.specs.Rules.{states}
-use Rattle.model.specs.Sending.{failed, terminate, close, close_refusal}
-use Rattle.records.specs.declared.Ending.{Ending}
+use Rattle.model.specs.Sending.{terminate, close, close_refusal}
+use Rattle.records.specs.declared.Receiver.{Receiver}
 use Rattle.records.specs.declared.Stream.{Stream}
+use Rattle.records.specs.declared.StreamAndTotals.{StreamAndTotals}
 use Rattle.records.specs.declared.Totals.{Totals}
-use Rattle.records.specs.Seen.{Lent, seen, seen_queue}
-use Rattle.records.specs.Open.{stores_test}
-use Rattle.close_state.specs.declared.Queued.{Queued}
-use Rattle.close_state.specs.State.{seen_ending, Pushable, StateQueued, with_state}
-use Rattle.close_state.proofs.StatePacket.{terminate_seen}
+use Rattle.records.specs.Seen.{Lent, seen, seen_queue, formed_receiver}
+use Rattle.close_state.specs.State.{Pushable, Terminates, with_state}
+use Rattle.udx_steps.specs.declared.step.Step.{Step}
+use Rattle.udx_steps.specs.Steps.{ready_step}
 use Rattle.udx_steps.specs.Steps.{refused_step}
-use Rattle.udx.specs.Agree.{Agrees, Answers}
-use Rattle.udx_steps.specs.Close.{closed_step}
+use Rattle.udx.specs.Agree.{on_records, Agrees, Answers}
 use Rattle.rules_lent.specs.Broken.{broken_records}
 use Rattle.udx_refusals.specs.Verdicts.{verdict_of, close_verdict}
-use Rattle.udx.proofs.RefusalLaws.{line, clear_line, refusal_one, is-refused, is_clear, acts_on, why_of, refused_answers, none_not_zero}
+use Rattle.udx.proofs.RefusalLaws.{line, clear_line, refusal_one, why_of, is-refused, is_clear, acts_on, refused_answers, none_not_zero}
 use Rattle.udx.proofs.Resting.{ready}
 use Rattle.udx.proofs.Unbroken.{Whole, unbroken, still_laid, places_used}
 
@@ -67,64 +67,67 @@ module _ (s : Stream) (t : Totals) (l : Lent) (len : length l.queue ≡ 128) whe
   later true e = refl
   later false e = line s.ending.ended refusal.AfterDone _ _ (last_lines s.queue.left s.queue.states queued (places_used (unbroken s t l len e)))
 
-  pub close_list : close_verdict (broken_records s t l) s ≡ verdict_of (why_of close_refusal s t l)
+  close_list : close_verdict (broken_records s t l) s ≡ verdict_of (why_of close_refusal s t l)
   unfolding close_refusal seen seen_queue
   close_list = later (broken_records s t l) refl ∙ refusal_one s t l (verdict_of later_why) later_why len refl
 
--- the verdict of a close
-pub close_says : (s : Stream) (t : Totals) (l : Lent) (b : Bool) (v : Result ⊤ Refusal) → b ≡ broken_records s t l → v ≡ close_verdict b s
-    → v ≡ close_verdict (broken_records s t l) s
-close_says s t l b v e h = h ∙ ap (λ (x : Bool). close_verdict x s) e
+  -- b is the result of refusal 1's test, v the verdict
+  module _ (b : Bool) (is : b ≡ broken_records s t l) (v : Result ⊤ Refusal) (h : v ≡ close_verdict b s) where
+    acts : End → Answer
+    acts e = answered Ready (terminate ConnectionReset e)
 
-pub close_refused : (s : Stream) (t : Totals) (l : Lent) (why : Refusal) → length l.queue ≡ 128 → Err why ≡ close_verdict (broken_records s t l) s
-    → Answers close s t l (refused_step s t why) l
-unfolding close
-close_refused s t l why len v =
-    refused_answers close s t l why
-    (is-refused close close_refusal (λ e. answered Ready (terminate ConnectionReset e)) s t l why (λ e. refl) (v ∙ close_list s t l len))
+    says : v ≡ verdict_of (why_of close_refusal s t l)
+    says = h ∙ ap (λ (x : Bool). close_verdict x s) is ∙ close_list
 
-module _ (s : Stream) (t : Totals) (l : Lent) (len : length l.queue ≡ 128) (clear : (Ok tt) ≡ close_verdict (broken_records s t l) s) where
-  tests : (broken_records s t l ≡ false) × (s.queue.left ≡ 0) × (s.queue.states < 63)
-  unfolding close_verdict
-  tests =
-      let (one, a) = clear_line (broken_records s t l) refusal.BrokenRecords _ (sym clear) in
-      let (_, b) = clear_line s.ending.ended refusal.AfterDone _ a in
-      let (six, c) = clear_line (ltb 0 s.queue.left) refusal.BatchesLeft _ b in
-      let (thirteen, _) = clear_line (leb 63 s.queue.states) refusal.StateQueueFull _ c in
-      let z = ltb-false 0 s.queue.left six in
-      (one, omega arith, leb-false 63 s.queue.states thirteen)
+    pub close_refused : (why : Refusal) → v ≡ Err why → (r : Step) → r ≡ refused_step s t why → Answers close s t l r l
+    unfolding close acts
+    close_refused why e r is_step =
+        rw is_step (refused_answers close s t l why (is-refused close close_refusal acts s t l why (λ e. refl) (sym e ∙ says)))
 
-  whole : Whole s t l
-  whole = unbroken s t l len tests.0
+    module _ (clear : v ≡ Ok tt) where
+      tests : (b ≡ false) × (s.queue.left ≡ 0) × (s.queue.states < 63)
+      unfolding close_verdict
+      tests =
+          let (one, x) = clear_line b refusal.BrokenRecords _ (sym h ∙ clear) in
+          let (_, y) = clear_line s.ending.ended refusal.AfterDone _ x in
+          let (six, z) = clear_line (ltb 0 s.queue.left) refusal.BatchesLeft _ y in
+          let (thirteen, _) = clear_line (leb 63 s.queue.states) refusal.StateQueueFull _ z in
+          let none_left = ltb-false 0 s.queue.left six in
+          (one, omega arith, leb-false 63 s.queue.states thirteen)
 
-  -- a queue at rest has at most 32 packets besides its state packets
-  pub close_able : Pushable s.queue (length l.headers)
-  close_able =
-      let r = ready s t l len whole tests.1 in
-      record {
-        whole = whole.headers;
-        rest = tests.1;
-        queued = omega (arith, r.queued, r.near);
-        places = omega (arith, tests.2);
-      }
+      whole : Whole s t l
+      whole = unbroken s t l len (sym is ∙ tests.0)
 
-  module _ (x : Ending) (a : Queued) (queue' : List ℕ) (headers' : Bytes) (ended : seen_ending x ≡ failed ConnectionReset (seen_ending s.ending))
-      (sent : StateQueued s.queue t x.error s.ids.remote s.sender.seq s.receiver.ack l.queue l.headers a queue' headers') where
-    abbrev after : Lent
-    after = with_state queue' headers' l
+      -- there is room for the state packet: a queue at rest has at most 32 packets besides its state packets
+      pub closable : (headers : Bytes) → headers ≡ l.headers → Pushable s.queue (length headers)
+      closable headers is_headers =
+          let (_, rest, few) = tests in
+          let r = ready s t l len whole rest in
+          rw is_headers (record { whole = whole.headers; rest = rest; queued = omega (arith, r.queued, r.near); places = omega arith })
 
-    stores_same : stores_test l.outgoing l.incoming headers' ≡ false
-    stores_same = let same : length headers' ≡ length l.headers = sent.headers_long ∙ sym whole.headers in rw same whole.stores
+      acting : on_records close s t l ≡ acts (seen s t l)
+      unfolding close acts
+      acting =
+          let (laid, nothing) = is_clear close_refusal s t l (sym clear ∙ says) in
+          acts_on close close_refusal acts s t l (λ e. refl) laid nothing
 
-    pub close_answers : Answers close s t l (closed_step s x a) after
-    unfolding close
-    close_answers =
-        record {
-          agrees =
-              subst (λ (z : Answer). Agrees z (closed_step s x a) after)
-              (sym (acts_on close close_refusal (λ e. answered Ready (terminate ConnectionReset e)) s t l (λ e. refl) (is_clear close_refusal s t l (clear ∙ close_list s t l len)).0 (is_clear close_refusal s t l (clear ∙ close_list s t l len)).1))
-              (record { outcome = refl; count = refl; segment = refl; not_zero = none_not_zero; end = terminate_seen s t l x ConnectionReset ended sent refl refl refl refl whole.words });
-          stays = λ h. still_laid (closed_step s x a).stream after stores_same whole.receiver (sent.formed whole.words);
-          changes_nothing = λ why z. absurd (let z' : ◌≡◌ {A = ℕ} 0 1 = cc in omega arith);
-          beside = record { outgoing = λ i l. refl; incoming = λ i l. refl };
-        }
+      module _ (c : StreamAndTotals) (queue' : List ℕ) (headers' : Bytes) (y : Terminates s t ConnectionReset l.queue l.headers c queue' headers') where
+        abbrev after : Lent
+        after = with_state queue' headers' l
+
+        agreed : Agrees (acts (seen s t l)) (ready_step c) after
+        unfolding acts
+        agreed = record { outcome = refl; count = refl; segment = refl; not_zero = none_not_zero; end = y.seen_after whole.words l }
+
+        pub close_answers : (r : Step) → r ≡ ready_step c → Answers close s t l r after
+        close_answers r is_step =
+            let same : length headers' ≡ length l.headers = y.pushed.whole ∙ sym whole.headers in
+            let receiver = ap (λ (x : Stream). x.receiver) y.others in
+            rw is_step (record {
+              agrees = subst (λ (a : Answer). Agrees a (ready_step c) after) (sym acting) agreed;
+              stays = λ z.
+                  still_laid c.stream after (rw same whole.stores) (subst (λ (r : Receiver). formed_receiver r ≡ true) (sym receiver) whole.receiver)
+                  (y.pushed.formed whole.words);
+              changes_nothing = λ why z. absurd (let z' : ◌≡◌ {A = ℕ} 0 1 = cc in omega arith);
+              beside = record { outgoing = λ i l. refl; incoming = λ i l. refl };
+            })

@@ -1,15 +1,15 @@
--- A delivery on the records answers as the model's. Its refusals are the model's list cut in three: those of a drive, a bad header, and
--- those that need the header. If none applies, it is `handle_incoming` on what is seen.
-use Prim.Native.Nat.{ℕ, ◌+◌, ◌-◌, ◌≤◌}
+-- A delivery on the records answers as the model's. Its verdict is the model's list cut in three: the refusals of a drive, a bad header,
+-- and those that need the header. If none applies, it is `handle_incoming` on what is seen.
+use Prim.Native.Nat.{ℕ, ◌+◌, ◌-◌, ◌^◌, ◌≤◌}
 use native.Mathlib.Omega.{arith}
 use mathlib.Core.Path.{◌≡◌, refl, sym, ap, ap₂, ◌∙◌, subst}
 use mathlib.Core.List.{List}
 use mathlib.Core.Option.{Option, none, some}
-use mathlib.Core.Bool.{Bool, true, false, cond, ◌&&◌, not}
+use mathlib.Core.Bool.{Bool, true, false, cond, ◌&&◌, ◌||◌, not}
 use lib.Dec.{ltb, leb, eqb}
 use lib.ListN.{length, take, drop, length-drop}
 use lib.Seq.{take_all}
-use borrow.Author.Tests.{ltb-false, leb-false, leb-true}
+use borrow.Author.Tests.{ltb-false, leb-false}
 use Rattle.std.specs.Prelude.{⊤, Result, Ok, Err}
 use Rattle.error.specs.declared.Refusal.{Refusal}
 use Rattle.error.specs.declared.Refusal.TheVariants as refusal
@@ -23,7 +23,6 @@ use Rattle.model.specs.Rules.{rules, states}
 use Rattle.model.specs.Driving.{drive_refusal}
 use Rattle.model.specs.Receiving.{bad_clock, handle_incoming, deliver, deliver_refusal}
 use Rattle.model.specs.Stream.{End}
-use Rattle.model.proofs.Gate.{and_left}
 use Rattle.model.proofs.RulesKept.{rules_say}
 use Rattle.records.specs.declared.Stream.{Stream}
 use Rattle.records.specs.declared.Totals.{Totals}
@@ -33,13 +32,14 @@ use Rattle.deliver_data.specs.Absorbing.{Accepted}
 use Rattle.records.proofs.LaidLaws.{laid_said, laid_says}
 use Rattle.records.specs.declared.StreamAndTotals.{StreamAndTotals}
 use Rattle.deliver_all.specs.Handle.{CanDeliver, Handled, with_delivered}
+use Rattle.udx_steps.specs.declared.step.Step.{Step}
 use Rattle.udx_steps.specs.Steps.{refused_step}
 use Rattle.udx.specs.Agree.{laid_out, on_records, Agrees, Answers}
-use Rattle.udx_steps.specs.Deliver.{delivered_step}
+use Rattle.udx_steps.specs.Steps.{ready_step}
 use Rattle.rules_lent.specs.Broken.{broken_records}
-use Rattle.udx_refusals.specs.Verdicts.{verdict_of, early_verdict, header_verdict}
+use Rattle.udx_refusals.specs.Verdicts.{verdict_of, early_verdict, header_verdict, delivery_verdict}
 use Rattle.udx.proofs.EarlyLaws.{early_says, early_clear, early_clock}
-use Rattle.udx.proofs.RefusalLaws.{line, clear_line, is-refused, is_clear, acts_on, why_of, refused_answers, none_not_zero}
+use Rattle.udx.proofs.RefusalLaws.{line, clear_line, either_refuses, both_clear, is-refused, is_clear, acts_on, why_of, refused_answers, none_not_zero}
 use Rattle.udx.proofs.Resting.{ready}
 use Rattle.udx.proofs.Unbroken.{Whole, unbroken, still_laid, places_used}
 
@@ -66,7 +66,7 @@ full_line : (k n : ℕ) → k ≡ n
 full_line k n e = rw e (line (leb 62 n) refusal.StateQueueFull (Ok tt) none refl)
 
 -- the payload is all that follows the header
-pub rest_of : (datagram : Bytes) → take (length datagram - 20) (drop 20 datagram) ≡ drop 20 datagram
+rest_of : (datagram : Bytes) → take (length datagram - 20) (drop 20 datagram) ≡ drop 20 datagram
 rest_of datagram = take_all (length datagram - 20) (drop 20 datagram) (rw length-drop (omega arith))
 
 -- the refusal for a datagram's header (8 to 13), if any
@@ -98,26 +98,32 @@ early_why true (some x) later why v = v
 late_why : (laid : Bool) (early later : Option Refusal) → laid ≡ true → early ≡ none → cond laid (or_else early later) (some refusal.BrokenRecords) ≡ later
 late_why laid early later p q = rw (p, q) refl
 
-module _ (s : Stream) (t : Totals) (l : Lent) (len : length l.queue ≡ 128) (datagram : Bytes) (clock : ℕ) (b : Bool) (v : Result ⊤ Refusal) (is : b ≡ broken_records s t l)
-    (says : v ≡ early_verdict b s clock) where
+module _ (s : Stream) (t : Totals) (l : Lent) (len : length l.queue ≡ 128) (datagram : Bytes) (clock : ℕ) (b : Bool) (is : b ≡ broken_records s t l) where
   acts : End → Answer
   acts e = answered Ready (handle_incoming clock (fields datagram) (drop 20 datagram) e)
 
-  refuses : (why : Refusal) → Err why ≡ verdict_of (why_of (deliver_refusal datagram clock) s t l) → Answers (deliver datagram clock) s t l (refused_step s t why) l
-  unfolding deliver acts
-  refuses why e =
-      refused_answers (deliver datagram clock) s t l why (is-refused (deliver datagram clock) (deliver_refusal datagram clock) acts s t l why (λ e. refl) e)
+  -- the model's refusal on the records
+  abbrev list : Result ⊤ Refusal
+  list = verdict_of (why_of (deliver_refusal datagram clock) s t l)
+
+  early_list : early_verdict b s clock ≡ verdict_of (why_of (drive_refusal clock) s t l)
+  early_list = early_says s t l len clock b (early_verdict b s clock) is refl
 
   -- refused before the datagram is read
-  pub early_refused : (why : Refusal) → v ≡ Err why → Answers (deliver datagram clock) s t l (refused_step s t why) l
+  early_refused : (why : Refusal) → early_verdict b s clock ≡ Err why → Err why ≡ list
   early_refused why e =
-      refuses why
-      (early_why (laid_out s l) (drive_refusal clock (seen s t l)) (later_why datagram (seen s t l)) why (sym e ∙ early_says s t l len clock b v is says)
-      ∙ ap (λ (o : Option Refusal). verdict_of (cond (laid_out s l) o (some refusal.BrokenRecords))) (sym (list_cut datagram clock (seen s t l))))
+      early_why (laid_out s l) (drive_refusal clock (seen s t l)) (later_why datagram (seen s t l)) why (sym e ∙ early_list)
+      ∙ ap (λ (o : Option Refusal). verdict_of (cond (laid_out s l) o (some refusal.BrokenRecords))) (sym (list_cut datagram clock (seen s t l)))
 
-  module _ (clear : v ≡ Ok tt) where
+  module _ (clear : early_verdict b s clock ≡ Ok tt) where
     free : (laid_out s l ≡ true) × (drive_refusal clock (seen s t l) ≡ none)
-    free = is_clear (drive_refusal clock) s t l (sym clear ∙ early_says s t l len clock b v is says)
+    free = is_clear (drive_refusal clock) s t l (sym clear ∙ early_list)
+
+    good : (broken_records s t l ≡ false) × ((leb (2 ^ 60) clock || ltb clock s.clocks.last.0) ≡ false) × (s.queue.left ≡ 0)
+    good = early_clear s t l len clock b (early_verdict b s clock) is refl clear
+
+    whole : Whole s t l
+    whole = unbroken s t l len good.0
 
     later_list : why_of (deliver_refusal datagram clock) s t l ≡ later_why datagram (seen s t l)
     later_list =
@@ -130,129 +136,153 @@ module _ (s : Stream) (t : Totals) (l : Lent) (len : length l.queue ≡ 128) (da
     no_header true why e = let z : ◌≡◌ {A = ℕ} 0 1 = cc in absurd (omega arith)
     no_header false why e = (refl, cc)
 
-    pub header_refused : (why : Refusal) → decoded datagram ≡ Err why → Answers (deliver datagram clock) s t l (refused_step s t why) l
+    header_refused : (why : Refusal) → decoded datagram ≡ Err why → Err why ≡ list
     unfolding decoded
-    header_refused why e =
-        let (f, w) = no_header (has_header datagram) why e in
-        refuses why (sym (ap verdict_of later_list ∙ rw (f, w) refl))
+    header_refused why e = let (f, w) = no_header (has_header datagram) why e in sym (ap verdict_of later_list ∙ rw (f, w) refl)
 
-    module _ (h : Header) (e : decoded datagram ≡ Ok h) where
+    module _ (h : Header) (ok : decoded datagram ≡ Ok h) where
       a_header : (t : Bool) → cond t (Ok (fields datagram)) (Err refusal.BadHeader) ≡ Ok h → (t ≡ true) × (h ≡ fields datagram)
       a_header true z = (refl, cc)
       a_header false z = let y : ◌≡◌ {A = ℕ} 0 1 = cc in absurd (omega arith)
 
       found : (has_header datagram ≡ true) × (h ≡ fields datagram)
       unfolding decoded
-      found = a_header (has_header datagram) e
+      found = a_header (has_header datagram) ok
 
-      pub long_enough : 20 ≤ length datagram
-      long_enough = leb-true 20 (length datagram) (and_left (leb 20 (length datagram)) _ found.0)
+      header_lines : header_verdict s h (length datagram - 20) ≡ verdict_of (header_why h (length datagram - 20) (seen s t l))
+      unfolding header_verdict seen seen_queue
+      header_lines =
+          line (not (eqb h.stream_id s.ids.local)) refusal.OtherStream _ _
+          (line (ltb 1_380 (length datagram - 20)) refusal.LongPayload _ _
+          (line (ltb s.sender.seq h.ack) refusal.AckPastSeq _ _
+          (line (has_type 1 h.typ && leb 4_294_967_295 h.seq) refusal.SeqEnd _ _
+          (line (has_type 1 h.typ && leb (s.receiver.read_cursor + ceiling) h.seq) refusal.PastIncoming _ _
+          (full_line s.queue.states (states (seen_queue s.queue l.queue l.headers).entries) (places_used whole good.2))))))
 
-      whole : Whole s t l
-      whole = unbroken s t l len (early_clear s t l len clock b v is says clear).0
+      header_found : why_of (deliver_refusal datagram clock) s t l ≡ header_why h (length datagram - 20) (seen s t l)
+      header_found =
+          later_list ∙ ap (λ (b : Bool). cond (not b) (some refusal.BadHeader) (header_why (fields datagram) (length (drop 20 datagram)) (seen s t l))) found.0
+          ∙ ap₂ (λ (g : Header) (n : ℕ). header_why g n (seen s t l)) (sym found.1) (length-drop 20 datagram)
 
-      module _ (x : Result ⊤ Refusal) (heads : x ≡ header_verdict s h (length datagram - 20)) where
-        header_lines : header_verdict s h (length datagram - 20) ≡ verdict_of (header_why h (length datagram - 20) (seen s t l))
-        unfolding header_verdict seen seen_queue
-        header_lines =
-            line (not (eqb h.stream_id s.ids.local)) refusal.OtherStream _ _
-            (line (ltb 1_380 (length datagram - 20)) refusal.LongPayload _ _
-            (line (ltb s.sender.seq h.ack) refusal.AckPastSeq _ _
-            (line (has_type 1 h.typ && leb 4_294_967_295 h.seq) refusal.SeqEnd _ _
-            (line (has_type 1 h.typ && leb (s.receiver.read_cursor + ceiling) h.seq) refusal.PastIncoming _ _
-            (full_line s.queue.states (states (seen_queue s.queue l.queue l.headers).entries) (places_used whole (early_clear s t l len clock b v is says clear).2))))))
+      header_list : header_verdict s h (length datagram - 20) ≡ list
+      header_list = header_lines ∙ ap verdict_of (sym header_found)
 
-        header_found : why_of (deliver_refusal datagram clock) s t l ≡ header_why h (length datagram - 20) (seen s t l)
-        header_found =
-            later_list ∙ ap (λ (b : Bool). cond (not b) (some refusal.BadHeader) (header_why (fields datagram) (length (drop 20 datagram)) (seen s t l))) found.0
-            ∙ ap₂ (λ (g : Header) (n : ℕ). header_why g n (seen s t l)) (sym found.1) (length-drop 20 datagram)
+  -- v is the verdict
+  module _ (v : Result Header Refusal) (says : v ≡ delivery_verdict b s clock datagram) where
+    refused_list : (why : Refusal) → v ≡ Err why → Err why ≡ list
+    unfolding delivery_verdict
+    refused_list why e =
+        either_refuses (early_verdict b s clock) _ why (sym says ∙ e) (early_refused why)
+        (λ u clear z. either_refuses (decoded datagram) _ why z (header_refused clear why)
+        (λ h ok z. either_refuses (header_verdict s h (length datagram - 20)) _ why z (λ y. sym y ∙ header_list clear h ok)
+        (λ u y z. absurd (let z' : ◌≡◌ {A = ℕ} 0 1 = cc in omega arith))))
 
-        header_list : x ≡ verdict_of (why_of (deliver_refusal datagram clock) s t l)
-        header_list = heads ∙ header_lines ∙ ap verdict_of (sym header_found)
+    pub deliver_refused : (why : Refusal) → v ≡ Err why → (r : Step) → r ≡ refused_step s t why → Answers (deliver datagram clock) s t l r l
+    unfolding deliver acts
+    deliver_refused why e r is_step =
+        rw is_step (refused_answers (deliver datagram clock) s t l why
+        (is-refused (deliver datagram clock) (deliver_refusal datagram clock) acts s t l why (λ e. refl) (refused_list why e)))
 
-        pub fields_refused : (why : Refusal) → x ≡ Err why → Answers (deliver datagram clock) s t l (refused_step s t why) l
-        fields_refused why y = refuses why (sym y ∙ header_list)
+    -- no refusal
+    module _ (h : Header) (accepts : v ≡ Ok h) where
+      parts : (early_verdict b s clock ≡ Ok tt) × (decoded datagram ≡ Ok h) × (header_verdict s h (length datagram - 20) ≡ Ok tt)
+      unfolding delivery_verdict
+      parts =
+          let (_, early, later) = both_clear (early_verdict b s clock) _ h (sym says ∙ accepts) in
+          let (g, reads, last) = both_clear (decoded datagram) _ h later in
+          let (_, heads, z) = both_clear (header_verdict s g (length datagram - 20)) _ h last in
+          let same : g ≡ h = cc in
+          (early, reads ∙ ap Ok same, subst (λ (x : Header). header_verdict s x (length datagram - 20) ≡ Ok tt) same heads)
 
-        -- none of them applies
-        module _ (accepts : x ≡ Ok tt) where
-          tests : (ltb 1_380 (length datagram - 20) ≡ false) × ((has_type 1 h.typ && leb 4_294_967_295 h.seq) ≡ false)
-              × ((has_type 1 h.typ && leb (s.receiver.read_cursor + 32) h.seq) ≡ false) × (leb 62 s.queue.states ≡ false)
-          unfolding header_verdict
-          tests =
-              let (_, a) = clear_line (not (eqb h.stream_id s.ids.local)) refusal.OtherStream _ (sym heads ∙ accepts) in
-              let (nine, b) = clear_line (ltb 1_380 (length datagram - 20)) refusal.LongPayload _ a in
-              let (_, c) = clear_line (ltb s.sender.seq h.ack) refusal.AckPastSeq _ b in
-              let (eleven, d) = clear_line (has_type 1 h.typ && leb 4_294_967_295 h.seq) refusal.SeqEnd _ c in
-              let (twelve, e) = clear_line (has_type 1 h.typ && leb (s.receiver.read_cursor + 32) h.seq) refusal.PastIncoming _ d in
-              let (thirteen, _) = clear_line (leb 62 s.queue.states) refusal.StateQueueFull _ e in
-              (nine, eleven, twelve, thirteen)
+      clear : early_verdict b s clock ≡ Ok tt
+      clear = parts.0
 
-          payload_short : length (drop 20 datagram) ≤ 1_380
-          payload_short = rw length-drop (ltb-false 1_380 (length datagram - 20) tests.0)
+      reads : (has_header datagram ≡ true) × (h ≡ fields datagram)
+      reads = found clear h parts.1
 
-          rest : s.queue.left ≡ 0
-          rest = (early_clear s t l len clock b v is says clear).2
+      kept : Whole s t l
+      kept = whole clear
 
-          data_accepted : has_type 1 h.typ ≡ true → Accepted s.receiver l.incoming h.seq (drop 20 datagram)
-          unfolding seen
-          data_accepted carries =
-              record {
-                store = whole.incoming;
-                short = payload_short;
-                unread = (rules_say (seen s t l) whole.kept).cursor_ack;
-                laid = laid_says s.receiver whole.receiver;
-                below = leb-false 4_294_967_295 h.seq (and-false (has_type 1 h.typ) (leb 4_294_967_295 h.seq) carries tests.1);
-                near = leb-false (s.receiver.read_cursor + 32) h.seq (and-false (has_type 1 h.typ) (leb (s.receiver.read_cursor + 32) h.seq) carries tests.2);
-              }
+      tests : (ltb 1_380 (length datagram - 20) ≡ false) × ((has_type 1 h.typ && leb 4_294_967_295 h.seq) ≡ false)
+          × ((has_type 1 h.typ && leb (s.receiver.read_cursor + 32) h.seq) ≡ false) × (leb 62 s.queue.states ≡ false)
+      unfolding header_verdict
+      tests =
+          let (_, a) = clear_line (not (eqb h.stream_id s.ids.local)) refusal.OtherStream _ parts.2 in
+          let (nine, b) = clear_line (ltb 1_380 (length datagram - 20)) refusal.LongPayload _ a in
+          let (_, c) = clear_line (ltb s.sender.seq h.ack) refusal.AckPastSeq _ b in
+          let (eleven, d) = clear_line (has_type 1 h.typ && leb 4_294_967_295 h.seq) refusal.SeqEnd _ c in
+          let (twelve, e) = clear_line (has_type 1 h.typ && leb (s.receiver.read_cursor + 32) h.seq) refusal.PastIncoming _ d in
+          let (thirteen, _) = clear_line (leb 62 s.queue.states) refusal.StateQueueFull _ e in
+          (nine, eleven, twelve, thirteen)
 
-          pub deliverable : (payload : Bytes) → payload ≡ drop 20 datagram → CanDeliver s clock h l.queue l.incoming l.headers payload
-          unfolding seen
-          deliverable payload part =
-              let k = rules_say (seen s t l) whole.kept in
-              let r = ready s t l len whole rest in
-              let states = leb-false 62 s.queue.states tests.3 in
-              rw part (record {
-                measured = record { range = k.estimate; early = early_clock s t l len clock b v is says clear; width = k.seq_near };
-                whole = whole.headers;
-                rest = rest;
-                queued = omega (arith, r.queued, r.near);
-                places = omega arith;
-                formed = whole.words;
-                takes = data_accepted;
-              })
+      payload_short : length (drop 20 datagram) ≤ 1_380
+      payload_short = rw length-drop (ltb-false 1_380 (length datagram - 20) tests.0)
 
-          module _ (payload : Bytes) (part : payload ≡ drop 20 datagram) (d : StreamAndTotals) (sent' held' queue' : List ℕ) (incoming' headers' : Bytes)
-              (y : Handled s t clock h payload l.sent l.held l.queue l.incoming l.headers d sent' held' queue' incoming' headers')
-              (same_incoming : length incoming' ≡ length l.incoming) (same-headers : length headers' ≡ length l.headers) where
-            abbrev after : Lent
-            after = with_delivered sent' held' queue' incoming' headers' l
+      rest : s.queue.left ≡ 0
+      rest = (good clear).2
 
-            stores_same : stores_test l.outgoing incoming' headers' ≡ false
-            stores_same = rw (same_incoming, same-headers) whole.stores
+      data_accepted : has_type 1 h.typ ≡ true → Accepted s.receiver l.incoming h.seq (drop 20 datagram)
+      unfolding seen
+      data_accepted carries =
+          record {
+            store = kept.incoming;
+            short = payload_short;
+            unread = (rules_say (seen s t l) kept.kept).cursor_ack;
+            laid = laid_says s.receiver kept.receiver;
+            below = leb-false 4_294_967_295 h.seq (and-false (has_type 1 h.typ) (leb 4_294_967_295 h.seq) carries tests.1);
+            near = leb-false (s.receiver.read_cursor + 32) h.seq (and-false (has_type 1 h.typ) (leb (s.receiver.read_cursor + 32) h.seq) carries tests.2);
+          }
 
-            acting : on_records (deliver datagram clock) s t l ≡ acts (seen s t l)
-            unfolding deliver acts
-            acting =
-                let (laid, nothing) = is_clear (deliver_refusal datagram clock) s t l (sym accepts ∙ header_list) in
-                acts_on (deliver datagram clock) (deliver_refusal datagram clock) acts s t l (λ e. refl) laid nothing
+      pub deliverable : (queue : List ℕ) (incoming headers : Bytes) → queue ≡ l.queue → incoming ≡ l.incoming → headers ≡ l.headers
+          → CanDeliver s clock h queue incoming headers (take (length datagram - 20) (drop 20 datagram))
+      unfolding seen
+      deliverable queue incoming headers is_queue is_incoming is_headers =
+          let k = rules_say (seen s t l) kept.kept in
+          let r = ready s t l len kept rest in
+          let states = leb-false 62 s.queue.states tests.3 in
+          rw (rest_of datagram, is_queue, is_incoming, is_headers) (record {
+            measured =
+                record { range = k.estimate; early = early_clock s t l len clock b (early_verdict b s clock) is refl clear; width = k.seq_near };
+            whole = kept.headers;
+            rest = rest;
+            queued = omega (arith, r.queued, r.near);
+            places = omega arith;
+            formed = kept.words;
+            takes = data_accepted;
+          })
 
-            agreed : Agrees (acts (seen s t l)) (delivered_step d) after
-            unfolding acts
-            agreed =
-                record {
-                  outcome = refl;
-                  count = refl;
-                  segment = refl;
-                  not_zero = none_not_zero;
-                  end = y.seen_after l ∙ ap₂ (λ (g : Header) (b : Bytes). handle_incoming clock g b (seen s t l)) found.1 part;
-                }
+      module _ (payload : Bytes) (part : payload ≡ take (length datagram - 20) (drop 20 datagram)) (d : StreamAndTotals) (sent' held' queue' : List ℕ) (incoming' headers' : Bytes)
+          (y : Handled s t clock h payload l.sent l.held l.queue l.incoming l.headers d sent' held' queue' incoming' headers')
+          (same_incoming : length incoming' ≡ length l.incoming) (same-headers : length headers' ≡ length l.headers) where
+        abbrev after : Lent
+        after = with_delivered sent' held' queue' incoming' headers' l
 
-            pub deliver_answers : Answers (deliver datagram clock) s t l (delivered_step d) after
-            deliver_answers =
-                record {
-                  agrees = subst (λ (a : Answer). Agrees a (delivered_step d) after) (sym acting) agreed;
-                  stays = λ z.
-                      still_laid d.stream after stores_same (laid_said d.stream.receiver (y.laid (laid_says s.receiver whole.receiver))) y.formed;
-                  changes_nothing = λ why z. absurd (let z' : ◌≡◌ {A = ℕ} 0 1 = cc in omega arith);
-                  beside = record { outgoing = λ i l. refl; incoming = y.beside };
-                }
+        stores_same : stores_test l.outgoing incoming' headers' ≡ false
+        stores_same = rw (same_incoming, same-headers) kept.stores
+
+        acting : on_records (deliver datagram clock) s t l ≡ acts (seen s t l)
+        unfolding deliver acts
+        acting =
+            let (laid, nothing) = is_clear (deliver_refusal datagram clock) s t l (sym parts.2 ∙ header_list clear h parts.1) in
+            acts_on (deliver datagram clock) (deliver_refusal datagram clock) acts s t l (λ e. refl) laid nothing
+
+        agreed : Agrees (acts (seen s t l)) (ready_step d) after
+        unfolding acts
+        agreed =
+            record {
+              outcome = refl;
+              count = refl;
+              segment = refl;
+              not_zero = none_not_zero;
+              end = y.seen_after l ∙ ap₂ (λ (g : Header) (b : Bytes). handle_incoming clock g b (seen s t l)) reads.1 (part ∙ rest_of datagram);
+            }
+
+        pub deliver_answers : (r : Step) → r ≡ ready_step d → Answers (deliver datagram clock) s t l r after
+        deliver_answers r is_step =
+            rw is_step (record {
+              agrees = subst (λ (a : Answer). Agrees a (ready_step d) after) (sym acting) agreed;
+              stays = λ z.
+                  still_laid d.stream after stores_same (laid_said d.stream.receiver (y.laid (laid_says s.receiver kept.receiver))) y.formed;
+              changes_nothing = λ why z. absurd (let z' : ◌≡◌ {A = ℕ} 0 1 = cc in omega arith);
+              beside = record { outgoing = λ i l. refl; incoming = y.beside };
+            })

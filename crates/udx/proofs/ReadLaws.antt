@@ -31,6 +31,7 @@ use Rattle.rules_packets.specs.Packets.{ok_receiver, ok_sender, every_from, held
 use Rattle.read_bytes.specs.declared.Read.{Read}
 use Rattle.read_bytes.specs.Reading.{HeldFit, Readable, HasRead}
 use Rattle.records.proofs.LaidLaws.{laid_said, laid_says}
+use Rattle.udx_steps.specs.declared.step.Step.{Step}
 use Rattle.udx_steps.specs.Steps.{refused_step}
 use Rattle.udx.specs.Agree.{on_records, Agrees}
 use Rattle.rules_lent.specs.Broken.{broken_records}
@@ -112,35 +113,35 @@ module _ (s : Stream) (t : Totals) (l : Lent) (buf : Bytes) (len : length l.queu
   unfolding read_refusal
   list = refusal_one s t l (Ok tt) none len refl
 
-  pub read_refused : broken_records s t l ≡ true → Gives s t l buf (refused_step s t refusal.BrokenRecords) l buf
+  pub read_refused : (b : Bool) → b ≡ broken_records s t l → b ≡ true → (r : Step) → r ≡ refused_step s t refusal.BrokenRecords → Gives s t l buf r l buf
   unfolding read
-  read_refused h =
-      let v : Err refusal.BrokenRecords ≡ verdict_of (why_of read_refusal s t l) = rw h at list in
+  read_refused b is h r is_step =
+      let v : Err refusal.BrokenRecords ≡ verdict_of (why_of read_refusal s t l) = rw (sym is ∙ h) at list in
       let e = is-refused (read (length buf)) read_refusal acts s t l refusal.BrokenRecords (λ e. refl) v in
-      record {
+      rw is_step (record {
         agrees = refused_agrees (read (length buf)) s t l refusal.BrokenRecords e;
         stays = λ z. z;
         changes_nothing = λ z. record { stream = refl; totals = refl; lent = refl };
         same_numbers = λ why z. (refl, refl);
         bytes = puts_nothing buf (on_records (read (length buf)) s t l) (ap (λ (a : Answer). a.bytes) e);
-      }
+      })
 
-  module _ (h : broken_records s t l ≡ false) where
+  module _ (b : Bool) (is : b ≡ broken_records s t l) (h : b ≡ false) where
     whole : Whole s t l
-    whole = unbroken s t l len h
+    whole = unbroken s t l len (sym is ∙ h)
 
-    pub read_readable : Readable s.receiver l.held l.incoming
-    read_readable =
-        record {
+    pub read_readable : (held : List ℕ) (incoming : Bytes) → held ≡ l.held → incoming ≡ l.incoming → Readable s.receiver held incoming
+    read_readable held incoming is_held is_incoming =
+        rw (is_held, is_incoming) (record {
           store = whole.incoming;
           laid = laid_says s.receiver whole.receiver;
           packets = fits s.receiver l.held (receiver_ok s t l.sent l.held l.queue whole.ok);
-        }
+        })
 
     acting : on_records (read (length buf)) s t l ≡ acts (seen s t l)
     unfolding read
     acting =
-        let v : (Ok tt) ≡ verdict_of (why_of read_refusal s t l) = rw h at list in
+        let v : (Ok tt) ≡ verdict_of (why_of read_refusal s t l) = rw (sym is ∙ h) at list in
         let (laid, nothing) = is_clear read_refusal s t l v in
         acts_on (read (length buf)) read_refusal acts s t l (λ e. refl) laid nothing
 
@@ -159,14 +160,14 @@ module _ (s : Stream) (t : Totals) (l : Lent) (buf : Bytes) (len : length l.queu
             end = ap (λ z. with_receiver z (seen s t l)) x.seen;
           }
 
-      pub read_gives : Gives s t l buf (read_step s t a) after buf'
+      pub read_gives : (r : Step) → r ≡ read_step s t a → Gives s t l buf r after buf'
       unfolding seen
-      read_gives =
-          record {
+      read_gives r is_step =
+          rw is_step (record {
             agrees = subst (λ (z : Answer). Agrees z (read_step s t a) after) (sym acting) agreed;
             stays = λ z. still_laid (read_stream a.receiver s) after whole.stores (laid_said a.receiver x.laid) whole.words;
             changes_nothing = λ z. absurd (other a.finished s.ending.error z);
             same_numbers = λ why z.
                 (ap (λ (r : Receiver). read_stream r s) (x.unmoved (unfinished a.finished s.ending.error why z)), refl);
             bytes = x.copied ∙ ap (λ (z : Answer). put buf 0 z.bytes) (sym acting);
-          }
+          })

@@ -28,7 +28,7 @@ use Rattle.rules_stream.proofs.Seen.{ok_seen}
 use Rattle.udx_steps.specs.Steps.{refused_step}
 use Rattle.udx.specs.Agree.{laid_out, on_records, Agrees, Answers}
 use Rattle.rules_lent.specs.Broken.{broken_records}
-use Rattle.udx_refusals.specs.Verdicts.{verdict_of, error_verdict, write_verdict}
+use Rattle.udx_refusals.specs.Verdicts.{verdict_of, error_verdict, write_verdict, and_then}
 
 -- one test of a list
 pub line : (b : Bool) (why : Refusal) (v : Result ⊤ Refusal) (o : Option Refusal) → v ≡ verdict_of o → cond b (Err why) v ≡ verdict_of (cond b (some why) o)
@@ -118,6 +118,17 @@ write_list s t l bytes len =
 pub clear_line : (b : Bool) (why : Refusal) (v : Result ⊤ Refusal) → cond b (Err why) v ≡ Ok tt → (b ≡ false) × (v ≡ Ok tt)
 clear_line true why v h = let z : ◌≡◌ {A = ℕ} 0 1 = cc in absurd (omega arith)
 clear_line false why v h = (refl, h)
+
+-- of two lists in turn, either refuses or both are clear
+
+pub either_refuses : {A B C : Type 0} (x : Result A Refusal) (next : A → Result B Refusal) (why : Refusal) → and_then x next ≡ Err why
+    → (x ≡ Err why → C) → ((a : A) → x ≡ Ok a → next a ≡ Err why → C) → C
+either_refuses (Ok a) next why e first second = second a refl e
+either_refuses (Err w) next why e first second = let z : w ≡ why = cc in first (ap Err z)
+
+pub both_clear : {A B : Type 0} (x : Result A Refusal) (next : A → Result B Refusal) (b : B) → and_then x next ≡ Ok b → (a : A) × (x ≡ Ok a) × (next a ≡ Ok b)
+both_clear (Ok a) next b e = (a, refl, e)
+both_clear (Err why) next b e = let z : ◌≡◌ {A = ℕ} 0 1 = cc in absurd (omega arith)
 
 -- no segment size is not a size of 0
 pub none_not_zero : ◌≢◌ {A = rust.Option ℕ} None (Some 0)

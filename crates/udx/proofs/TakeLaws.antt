@@ -7,7 +7,7 @@ use mathlib.Core.Option.{none, some}
 use mathlib.Core.Bool.{Bool, true, false, cond}
 use lib.Dec.{ltb, eqb}
 use lib.ListN.{length}
-use borrow.Author.Tests.{ltb-false, lt-ltb, le-ltb}
+use borrow.Author.Tests.{ltb-false, lt-ltb}
 use Rattle.std.specs.Prelude.{⊤, Result, Ok, Err, None, Some, ◌≢◌}
 use Rattle.error.specs.declared.Refusal.{Refusal}
 use Rattle.error.specs.declared.Refusal.TheVariants as refusal
@@ -29,6 +29,7 @@ use Rattle.take_next.specs.declared.Handed.{Handed}
 use Rattle.take_next.specs.Take.{taken_stream, taken_lent, Sendable, segment_size, HandedOut, HandsOut}
 use Rattle.take_next.proofs.RulesTake.{own_lends, rules_take}
 use Rattle.udx.specs.Agree as agree
+use Rattle.udx_steps.specs.declared.step.Step.{Step}
 use Rattle.udx_steps.specs.Steps.{refused_step}
 use Rattle.udx.specs.Agree.{on_records, Agrees}
 use Rattle.rules_lent.specs.Broken.{broken_records}
@@ -72,11 +73,11 @@ module _ (s : Stream) (t : Totals) (l : Lent) (buf : Bytes) (len : length l.queu
   unfolding take_verdict take_refusal
   says = h ∙ (rw is (refusal_one s t l _ _ len (line (ltb (length buf) 14_000) refusal.ShortBuffer (Ok tt) none refl)))
 
-  pub take_refused : (why : Refusal) → v ≡ Err why → Hands s t l buf (refused_step s t why) l buf
+  pub take_refused : (why : Refusal) → v ≡ Err why → (step : Step) → step ≡ refused_step s t why → Hands s t l buf step l buf
   unfolding take
-  take_refused why e =
+  take_refused why e step is_step =
       let a = is-refused (take (length buf)) (take_refusal (length buf)) acts s t l why (λ e. refl) (sym e ∙ says) in
-      record { answers = refused_answers (take (length buf)) s t l why a; bytes = puts_nothing buf (on_records (take (length buf)) s t l) (ap (λ (z : Answer). z.bytes) a) }
+      rw is_step (record { answers = refused_answers (take (length buf)) s t l why a; bytes = puts_nothing buf (on_records (take (length buf)) s t l) (ap (λ (z : Answer). z.bytes) a) })
 
   module _ (clear : v ≡ Ok tt) where
     acting : on_records (take (length buf)) s t l ≡ acts (seen s t l)
@@ -86,11 +87,11 @@ module _ (s : Stream) (t : Totals) (l : Lent) (buf : Bytes) (len : length l.queu
         acts_on (take (length buf)) (take_refusal (length buf)) acts s t l (λ e. refl) laid nothing
 
     -- nothing is left to take
-    pub take_nothing : s.queue.left ≤ 0 → Hands s t l buf (nothing_step s t) l buf
+    pub take_nothing : s.queue.left ≡ 0 → (step : Step) → step ≡ nothing_step s t → Hands s t l buf step l buf
     unfolding seen seen_queue
-    take_nothing z =
-        let e : on_records (take (length buf)) s t l ≡ answered Nothing (seen s t l) = acting ∙ rw (le-ltb 0 s.queue.left z) refl in
-        record {
+    take_nothing z step is_step =
+        let e : on_records (take (length buf)) s t l ≡ answered Nothing (seen s t l) = acting ∙ rw z refl in
+        rw is_step (record {
           answers =
               record {
                 agrees = subst (λ (a : Answer). Agrees a (nothing_step s t) l) (sym e) (record { outcome = refl; count = refl; segment = refl; not_zero = none_not_zero; end = refl });
@@ -99,7 +100,7 @@ module _ (s : Stream) (t : Totals) (l : Lent) (buf : Bytes) (len : length l.queu
                 beside = record { outgoing = λ i l. refl; incoming = λ i l. refl };
               };
           bytes = puts_nothing buf (on_records (take (length buf)) s t l) (ap (λ (a : Answer). a.bytes) e);
-        }
+        })
 
     kept_room : (b ≡ false) × (14_000 ≤ length buf)
     unfolding take_verdict
@@ -111,9 +112,14 @@ module _ (s : Stream) (t : Totals) (l : Lent) (buf : Bytes) (len : length l.queu
     whole : Whole s t l
     whole = unbroken s t l len (sym is ∙ kept_room.0)
 
-    module _ (here : 0 < s.queue.left) where
-      pub take_sendable : Sendable s.queue s.sender s.ids.segments s.clocks.drive.0 l.sent l.queue l.outgoing l.headers buf
-      take_sendable = rules_take s t l whole.kept whole.queue whole.outgoing whole.headers buf here kept_room.1
+    module _ (some_left : s.queue.left ≢ 0) where
+      here : 0 < s.queue.left
+      here = omega arith
+
+      pub take_sendable : (sent queue : List ℕ) (outgoing headers : Bytes) → sent ≡ l.sent → queue ≡ l.queue → outgoing ≡ l.outgoing → headers ≡ l.headers
+          → Sendable s.queue s.sender s.ids.segments s.clocks.drive.0 sent queue outgoing headers buf
+      take_sendable sent queue outgoing headers is_sent is_queue is_outgoing is_headers =
+          rw (is_sent, is_queue, is_outgoing, is_headers) (rules_take s t l whole.kept whole.queue whole.outgoing whole.headers buf here kept_room.1)
 
       head_least : 20 ≤ head_length (seen s t l).queue.entries
       unfolding seen seen_queue
@@ -145,9 +151,9 @@ module _ (s : Stream) (t : Totals) (l : Lent) (buf : Bytes) (len : length l.queu
               end = handed.took.end;
             }
 
-        pub take_batch : Hands s t l buf (taken_step s t r) after buf'
-        take_batch =
-            record {
+        pub take_batch : (step : Step) → step ≡ taken_step s t r → Hands s t l buf step after buf'
+        take_batch step is_step =
+            rw is_step (record {
               answers =
                   record {
                     agrees = subst (λ (a : Answer). Agrees a (taken_step s t r) after) (sym batch_answer) agreed;
@@ -156,4 +162,4 @@ module _ (s : Stream) (t : Totals) (l : Lent) (buf : Bytes) (len : length l.queu
                     beside = record { outgoing = λ i l. refl; incoming = λ i l. refl };
                   };
               bytes = handed.took.bytes ∙ ap (λ (a : Answer). put buf 0 a.bytes) (sym batch_answer);
-            }
+            })

@@ -32,7 +32,7 @@ pub record Agrees (a : Answer) (r : Step) (after : Lent) : Type 0 where
   pub outcome : r.outcome ≡ a.outcome
   pub count : r.count ≡ a.count
   pub segment : segment_of r.segment ≡ a.segment
-  -- so 0 can stand for no segment size
+  -- so 0 can stand for no segment size in the numbers that C gets (`FlatStep.segment`)
   pub not_zero : r.segment ≢ Some 0
   pub end : seen r.stream r.totals after ≡ a.end
 

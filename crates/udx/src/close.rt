@@ -8,7 +8,7 @@ use error::UdxError;
 use records::{Stream, Totals};
 use rules_lent::broken;
 use udx_refusals::close_verdict;
-use udx_steps::{Step, closed_step, refused};
+use udx_steps::{Step, ready_step, refused};
 
 // "it replaces any earlier error and queues a state packet each time"
 pub fn close(
@@ -29,21 +29,8 @@ pub fn close(
         incoming.now headers.new) }
 {
     let one = broken(s, t, sent, held, queue, outgoing, incoming, headers);
-    match close_verdict(one, s) {
-        Err(why) => refused(s, t, why),
-        Ok(()) => {
-            let ending = close_state::terminated(s.ending, UdxError::ConnectionReset);
-            let packet = close_state::send_state_packet(
-                s.queue,
-                t,
-                ending.error,
-                s.ids.remote,
-                s.sender.seq,
-                s.receiver.ack,
-                queue,
-                headers,
-            );
-            closed_step(s, ending, packet)
-        }
+    if let Err(why) = close_verdict(one, s) {
+        return refused(s, t, why);
     }
+    ready_step(close_state::terminate(s, t, UdxError::ConnectionReset, queue, headers))
 }

@@ -4,13 +4,13 @@ ghost use Rattle.rules_lent.specs.Broken.{lent};
 ghost use Rattle.udx.specs.Agree.{Answers};
 
 use constants::{HELD_WORDS, QUEUE_WORDS, SENT_WORDS, UDX_HEADER_SIZE};
-use packet::Header;
 use records::{Stream, Totals};
 use rtt::Nanos;
 use rules_lent::broken;
-use udx_refusals::{early_verdict, header_verdict};
-use udx_steps::{Step, delivered_step, refused};
+use udx_refusals::delivery_verdict;
+use udx_steps::{Step, ready_step, refused};
 
+#[tactic(auto, unfolding(udx_refusals::specs::Verdicts::delivery_verdict, packet::specs::Header::decoded))]
 pub fn deliver(
     s: Stream,
     t: Totals,
@@ -31,20 +31,13 @@ pub fn deliver(
         headers.new) }
 {
     let one = broken(s, t, sent, held, queue, outgoing, incoming, headers);
-    match early_verdict(one, s, clock) {
-        Err(why) => refused(s, t, why),
-        Ok(()) => match Header::from_bytes(datagram) {
-            Err(why) => refused(s, t, why),
-            Ok(h) => match header_verdict(s, h, datagram.len() - UDX_HEADER_SIZE) {
-                Err(why) => refused(s, t, why),
-                Ok(()) => {
-                    let payload = &datagram[UDX_HEADER_SIZE..];
-                    let d = deliver_all::handle_incoming(
-                        s, t, clock, h, sent, held, queue, incoming, headers, payload,
-                    );
-                    delivered_step(d)
-                }
-            },
-        },
-    }
+    let h = match delivery_verdict(one, s, clock, datagram) {
+        Err(why) => return refused(s, t, why),
+        Ok(h) => h,
+    };
+    let payload = &datagram[UDX_HEADER_SIZE..];
+    let d = deliver_all::handle_incoming(
+        s, t, clock, h, sent, held, queue, incoming, headers, payload,
+    );
+    ready_step(d)
 }

@@ -8,8 +8,9 @@ use records::{Stream, Totals};
 use rtt::Nanos;
 use rules_lent::broken;
 use udx_refusals::early_verdict;
-use udx_steps::{Step, done_step, polled_step, refused};
+use udx_steps::{Step, done_step, ready_step, refused};
 
+#[tactic(auto, unfolding(udx_refusals::specs::Verdicts::early_verdict))]
 pub fn drive(
     s: Stream,
     t: Totals,
@@ -29,14 +30,12 @@ pub fn drive(
         headers.new) }
 {
     let one = broken(s, t, sent, held, queue, outgoing, incoming, headers);
-    match early_verdict(one, s, clock) {
-        Err(why) => refused(s, t, why),
-        Ok(()) => {
-            if drive_drain::drained(s.ending.error, s.queue, s.sender, sent) {
-                return done_step(s, t, clock);
-            }
-            let p = drive_all::poll_drive(s, t, clock, sent, queue, headers);
-            polled_step(p)
-        }
+    if let Err(why) = early_verdict(one, s, clock) {
+        return refused(s, t, why);
     }
+    if drive_drain::drained(s.ending.error, s.queue, s.sender, sent) {
+        return done_step(s, t, clock);
+    }
+    let p = drive_all::poll_drive(s, t, clock, sent, queue, headers);
+    ready_step(p)
 }

@@ -9,6 +9,7 @@ use rules_lent::broken;
 
 // "the next datagram .. is shown as a part of the outgoing store or of the header store, an empty part when nothing is left to take and
 // also in place of refusal 1"
+#[tactic(auto, using(crate::proofs::LookLaws::look_is, crate::proofs::LookLaws::look_room))]
 pub fn look<'a>(
     s: Stream,
     t: Totals,

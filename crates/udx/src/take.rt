@@ -29,25 +29,22 @@ pub fn take(
         buf.new }
 {
     let one = broken(s, t, sent, held, queue, outgoing, incoming, headers);
-    match take_verdict(one, buf.len()) {
-        Err(why) => refused(s, t, why),
-        Ok(()) => {
-            if 0 < s.queue.left {
-                let h = next_batch(
-                    s.queue,
-                    s.sender,
-                    s.ids.segments,
-                    s.clocks.drive,
-                    sent,
-                    queue,
-                    outgoing,
-                    headers,
-                    buf,
-                );
-                taken_step(s, t, h)
-            } else {
-                nothing(s, t)
-            }
-        }
+    if let Err(why) = take_verdict(one, buf.len()) {
+        return refused(s, t, why);
     }
+    if s.queue.left == 0 {
+        return nothing(s, t);
+    }
+    let h = next_batch(
+        s.queue,
+        s.sender,
+        s.ids.segments,
+        s.clocks.drive,
+        sent,
+        queue,
+        outgoing,
+        headers,
+        buf,
+    );
+    taken_step(s, t, h)
 }

@@ -28,21 +28,19 @@ pub fn write(
         headers.now) }
 {
     let one = broken(s, t, sent, held, queue, outgoing, incoming, headers);
-    let empty = bytes.len() == 0;
-    match write_verdict(one, s, empty) {
-        Err(why) => refused(s, t, why),
-        Ok(()) => {
-            let o = outbox(s, t);
-            let w = write_all::write_pieces(
-                o,
-                s.ids.remote,
-                s.receiver.ack,
-                sent,
-                queue,
-                outgoing,
-                bytes,
-            );
-            written(s, w, empty)
-        }
+    let empty = bytes.is_empty();
+    if let Err(why) = write_verdict(one, s, empty) {
+        return refused(s, t, why);
     }
+    let o = outbox(s, t);
+    let w = write_all::write_pieces(
+        o,
+        s.ids.remote,
+        s.receiver.ack,
+        sent,
+        queue,
+        outgoing,
+        bytes,
+    );
+    written(s, w, empty)
 }

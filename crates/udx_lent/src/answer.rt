@@ -5,7 +5,7 @@ use error::{Outcome, Refusal};
 use records::Stream;
 use udx::Step;
 
-// What a call answers, with the stream after it; the totals are in the record it was lent.
+// What a call answers, with the stream after it: a step without the totals, which are in the record it was lent.
 #[derive(Clone, Copy)]
 pub struct Answer {
     pub stream: Stream,

@@ -1,5 +1,5 @@
 -- The refusals of each call on the records, in 01's order.
-use Rattle.std.specs.Prelude.{ℕ, ◌+◌, ◌^◌, Bool, cond, ◌&&◌, ◌||◌, not, ltb, leb, eqb, ⊤, Result, Ok, Err, None, Some}
+use Rattle.std.specs.Prelude.{ℕ, ◌+◌, ◌-◌, ◌^◌, List, length, Bool, cond, ◌&&◌, ◌||◌, not, ltb, leb, eqb, ⊤, Result, Ok, Err, None, Some}
 use Rattle.std.specs.Prelude as rust
 use Rattle.std.proofs.Math.Option.{Option, none, some}
 use Rattle.error.specs.declared.UdxError.{UdxError}
@@ -7,7 +7,7 @@ use Rattle.error.specs.Answers.{met}
 use Rattle.error.specs.declared.Refusal.{Refusal}
 use Rattle.error.specs.declared.Refusal.TheVariants as refusal
 use Rattle.packet.specs.declared.header.Header.{Header}
-use Rattle.packet.specs.Header.{has_type}
+use Rattle.packet.specs.Header.{has_type, decoded}
 use Rattle.records.specs.declared.Stream.{Stream}
 
 -- the model's first refusal, if any, as a verdict
@@ -56,3 +56,14 @@ header_verdict s h payload =
     (cond (has_type 1 h.typ && leb 4_294_967_295 h.seq) (Err refusal.SeqEnd)
     (cond (has_type 1 h.typ && leb (s.receiver.read_cursor + 32) h.seq) (Err refusal.PastIncoming)
     (cond (leb 62 s.queue.states) (Err refusal.StateQueueFull) (Ok tt))))))
+
+-- the next list of tests, if none of the last one holds
+abbrev pub and_then : {A B : Type 0} → Result A Refusal → (A → Result B Refusal) → Result B Refusal
+and_then (Ok a) next = next a
+and_then (Err why) next = Err why
+
+-- refusals 1 and 4 to 13 of a delivery; of none, the datagram's header
+unfoldable pub delivery_verdict : (broken : Bool) → Stream → (clock : ℕ) → (datagram : List ℕ) → Result Header Refusal
+delivery_verdict broken s clock datagram =
+    and_then (early_verdict broken s clock)
+    (λ _. and_then (decoded datagram) (λ h. and_then (header_verdict s h (length datagram - 20)) (λ _. Ok h)))

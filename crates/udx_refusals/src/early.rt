@@ -11,8 +11,9 @@ use rtt::Nanos;
 fn bad_clock(clock: Nanos, last: Nanos) -> bool
     ensures { result ≡ (leb (2 ^ 60) clock.0 || ltb clock.0 last.0) }
 {
-    CLOCK_END <= clock.0 || clock.0 < last.0
+    CLOCK_END <= clock.0 || clock < last
 }
+
 // Refusals 1, 4, 5 and 6, in this order.
 #[tactic(auto, unfolding(crate::specs::Verdicts::early_verdict))]
 pub fn early_verdict(broken: bool, s: Stream, clock: Nanos) -> Result<(), Refusal>

@@ -12,6 +12,7 @@ fn exhausted(empty: bool, seq: u32) -> bool
 {
     !empty && SEQ_END <= seq
 }
+
 // Refusals 1, 6, 14 to 16 and 17, in this order.
 #[tactic(auto, unfolding(crate::specs::Verdicts::write_verdict))]
 pub fn write_verdict(broken: bool, s: Stream, empty: bool) -> Result<(), Refusal>

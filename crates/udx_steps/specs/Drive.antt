@@ -1,10 +1,9 @@
--- A drive that is not refused, on the records: done, or polled.
+-- A drive that is done, on the records.
 use Rattle.std.specs.Prelude.{ℕ, true, Ok, None}
-use Rattle.error.specs.declared.Outcome.TheVariants.{Ready, Done}
+use Rattle.error.specs.declared.Outcome.TheVariants.{Done}
 use Rattle.records.specs.declared.Stream.{Stream}
 use Rattle.records.specs.declared.Totals.{Totals}
 use Rattle.close_state.specs.State.{with_ending}
-use Rattle.records.specs.declared.StreamAndTotals.{StreamAndTotals}
 use Rattle.drive_all.specs.Poll.{driven_at}
 use Rattle.udx_steps.specs.declared.step.Step.{Step}
 
@@ -18,6 +17,3 @@ done_step clock s t =
       count = 0;
       segment = None;
     }
-
-abbrev pub polled_step : StreamAndTotals → Step
-polled_step p = record { stream = p.stream; totals = p.totals; outcome = Ok Ready; count = 0; segment = None }

@@ -1,6 +1,4 @@
 pub mod Steps
-pub mod Close
-pub mod Deliver
 pub mod Drive
 pub mod Read
 pub mod Take

@@ -1,9 +1,9 @@
 // What a call answers.
 ghost use Rattle.std.specs.Prelude.{◌≡◌, None};
-ghost use Rattle.udx_steps.specs.Steps.{refused_step};
+ghost use Rattle.udx_steps.specs.Steps.{ready_step, refused_step};
 
 use error::{Outcome, Refusal};
-use records::{Stream, Totals};
+use records::{Stream, StreamAndTotals, Totals};
 
 // What a call answers, with the stream and the totals after it.
 #[derive(Clone, Copy)]
@@ -28,6 +28,13 @@ pub(crate) fn bare_step(stream: Stream, totals: Totals, outcome: Result<Outcome,
         count: 0,
         segment: None,
     }
+}
+
+// What an accepted delivery, a drive that is not done and a close answer: ok, and the stream and totals that their parts left.
+pub fn ready_step(x: StreamAndTotals) -> Step
+    ensures { result ≡ ready_step x }
+{
+    bare_step(x.stream, x.totals, Ok(Outcome::Ready))
 }
 
 // "Each returns its number and changes nothing"

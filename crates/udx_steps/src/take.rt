@@ -18,14 +18,13 @@ pub fn nothing(stream: Stream, totals: Totals) -> Step
 pub fn taken_step(s: Stream, totals: Totals, h: Handed) -> Step
     ensures { result ≡ taken_step s totals h }
 {
+    let stream = Stream {
+        queue: h.queue,
+        ..s
+    };
     Step {
-        stream: Stream {
-            queue: h.queue,
-            ..s
-        },
-        totals,
-        outcome: Ok(Outcome::Ready),
         count: h.count,
         segment: h.segment,
+        ..bare_step(stream, totals, Ok(Outcome::Ready))
     }
 }
