@@ -1,2 +1,1 @@
-pub mod CrossLaws
 pub mod ShownLaws

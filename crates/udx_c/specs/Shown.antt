@@ -1,9 +1,11 @@
 -- Look for C: the part of a store as numbers (`Looks`), and that its bytes are those that look shows (`LooksShown`, proved in
 -- proofs/ShownLaws.antt).
-use Rattle.std.specs.Prelude.{◌+◌, ◌≤◌, ◌≡◌, true, false, cond, eqb, length, take, drop}
+use Rattle.std.specs.Prelude.{ℕ, Option, None, Some, ◌+◌, ◌≤◌, ◌≡◌, true, false, cond, eqb, length, take, drop}
 use Rattle.model.specs.Lists.{Bytes}
 use Rattle.records.specs.Seen.{Lent}
 use Rattle.udx.specs.Look.{shown_of}
+use Rattle.udx_c_part.specs.declared.Store.{Store}
+use Rattle.udx_c_part.specs.declared.Store.TheVariants.{Outgoing, Headers}
 use Rattle.udx_c_part.specs.declared.Part.{Part}
 use Rattle.udx_c_part.specs.Place.{looked_part}
 use Rattle.udx_c_numbers.specs.declared.structs.FlatStream.{FlatStream}
@@ -15,8 +17,14 @@ use Rattle.udx_c.specs.declared.look.FlatPart.{FlatPart}
 abbrev pub no_part : FlatPart
 no_part = record { start = 0; length = 0; header = 0 }
 
-abbrev pub flat_part : Part → FlatPart
-flat_part p = record { start = p.start; length = p.length; header = cond p.header 1 0 }
+-- 1 for the header store
+abbrev pub header_byte : Store → ℕ
+header_byte Outgoing = 0
+header_byte Headers = 1
+
+abbrev pub flat_part : Option Part → FlatPart
+flat_part None = no_part
+flat_part (Some p) = record { start = p.start; length = p.length; header = header_byte p.store }
 
 -- 01, 'Added by design': "look, in which the next datagram .. is shown as a part of the outgoing store or of the header store, an empty
 -- part when nothing is left to take and also in place of refusal 1", to which a strange byte leads too

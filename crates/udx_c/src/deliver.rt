@@ -5,8 +5,9 @@ ghost use Rattle.udx.specs.Agree.{Answers};
 ghost use Rattle.udx_c.specs.Crosses.{Crosses};
 
 use constants::{HELD_WORDS, QUEUE_WORDS, SENT_WORDS};
+use records::Stream;
 use rtt::Nanos;
-use udx_c_numbers::{FlatStep, FlatStream, FlatTotals, broken_step, strange};
+use udx_c_numbers::{FlatStep, FlatStream, FlatTotals, broken_step};
 
 pub fn udx_deliver(
     stream: FlatStream,
@@ -27,11 +28,11 @@ pub fn udx_deliver(
         (lent sent.new held.new queue.new outgoing.now incoming.new
         headers.new) }
 {
-    if strange(stream.ending) {
+    let Ok(s) = Stream::try_from(stream) else {
         return broken_step(stream, totals);
-    }
+    };
     udx::deliver::deliver(
-        stream.into(),
+        s,
         totals.into(),
         sent,
         held,

@@ -5,8 +5,9 @@ ghost use Rattle.udx.specs.Agree.{Answers};
 ghost use Rattle.udx_c.specs.Crosses.{Crosses};
 
 use constants::{HELD_WORDS, QUEUE_WORDS, SENT_WORDS};
+use records::Stream;
 use rtt::Nanos;
-use udx_c_numbers::{FlatStep, FlatStream, FlatTotals, broken_step, strange};
+use udx_c_numbers::{FlatStep, FlatStream, FlatTotals, broken_step};
 
 pub fn udx_drive(
     stream: FlatStream,
@@ -26,11 +27,11 @@ pub fn udx_drive(
         (lent sent.new held.now queue.new outgoing.now incoming.now
         headers.new) }
 {
-    if strange(stream.ending) {
+    let Ok(s) = Stream::try_from(stream) else {
         return broken_step(stream, totals);
-    }
+    };
     udx::drive::drive(
-        stream.into(),
+        s,
         totals.into(),
         sent,
         held,

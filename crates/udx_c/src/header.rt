@@ -3,8 +3,9 @@ ghost use Rattle.std.specs.Prelude.{◌≡◌};
 ghost use Rattle.packet.specs.Header.{decoded};
 ghost use Rattle.udx_c.specs.Coded.{FlatEncodes, flat_decoded, flat_header, header_of};
 
+use error::{Outcome, Refusal};
 use packet::Header;
-use udx_c_numbers::refusal_byte;
+use udx_c_numbers::{outcome_byte, refusal_byte};
 
 #[repr(C)]
 #[derive(Clone, Copy, Default)]
@@ -17,7 +18,7 @@ pub struct FlatHeader {
     pub data_offset: u8,
 }
 
-// The header is all 0 if it is refused.
+// C has no Result: the header is all 0 if it is refused.
 #[repr(C)]
 #[derive(Clone, Copy)]
 pub struct FlatDecoded {
@@ -56,6 +57,18 @@ impl From<Header> for FlatHeader {
     }
 }
 
+impl From<Result<Header, Refusal>> for FlatDecoded {
+    ghost from_gives = { λ decoded r. r ≡ flat_decoded decoded };
+
+    fn from(decoded: Result<Header, Refusal>) -> FlatDecoded {
+        FlatDecoded {
+            header: decoded.map_or(FlatHeader::default(), FlatHeader::from),
+            outcome: outcome_byte(decoded.map(|_| Outcome::Ready)),
+            refusal: refusal_byte(decoded),
+        }
+    }
+}
+
 // Returns 0, or the refusal's number.
 pub fn udx_encode(header: FlatHeader, buf: &mut [u8]) -> u8
     ensures { FlatEncodes header buf.old buf.new result }
@@ -66,16 +79,5 @@ pub fn udx_encode(header: FlatHeader, buf: &mut [u8]) -> u8
 pub fn udx_decode(buf: &[u8]) -> FlatDecoded
     ensures { result ≡ flat_decoded (decoded buf.now) }
 {
-    match Header::from_bytes(buf) {
-        Ok(h) => FlatDecoded {
-            header: h.into(),
-            outcome: 0,
-            refusal: 0,
-        },
-        Err(why) => FlatDecoded {
-            header: FlatHeader::default(),
-            outcome: 4,
-            refusal: why.number(),
-        },
-    }
+    Header::from_bytes(buf).into()
 }

@@ -58,34 +58,16 @@ pub fn udx_layout_stream(s: FlatStream) -> Numbers
 pub fn udx_layout_totals(s: FlatStream, t: FlatTotals) -> Numbers
     ensures { result.n ≡ totals_fields t ++ replicate 18 0 }
 {
-    Numbers {
-        n: [
-            t.tx_packets,
-            t.tx_bytes,
-            t.rx_packets,
-            t.rx_bytes,
-            t.inflight_packets,
-            t.inflight_bytes,
-            0,
-            0,
-            0,
-            0,
-            0,
-            0,
-            0,
-            0,
-            0,
-            0,
-            0,
-            0,
-            0,
-            0,
-            0,
-            0,
-            0,
-            0,
-        ],
-    }
+    let mut n = [0; 24];
+    n[..6].copy_from_slice(&[
+        t.tx_packets,
+        t.tx_bytes,
+        t.rx_packets,
+        t.rx_bytes,
+        t.inflight_packets,
+        t.inflight_bytes,
+    ]);
+    Numbers { n }
 }
 
 fn counted_ids() -> FlatIds

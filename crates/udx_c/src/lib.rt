@@ -1,5 +1,7 @@
-// The calls as C and Rust make them: structs of plain numbers are passed and returned by value, words and stores are lent as they are,
-// enums are numbers. include/udx.h declares all of it, and crate udx_archive exports each function under its name and contract.
+// The calls as C and Rust make them: structs of plain numbers are passed and returned by value, words and stores are lent as they are, each
+// by its own pointer, and enums are numbers. include/udx.h declares all of it, and crate udx_archive exports each function under its name
+// and contract. The calls have one shape and are still written out one by one: each lends other words and stores to be written, and has a
+// contract of its own.
 //
 // The caller may pass any numbers: a byte that is not a valid error, close state or flag is a broken record, and the call answers
 // refusal 1.

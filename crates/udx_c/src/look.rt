@@ -1,15 +1,16 @@
 // Look for C.
 ghost use Rattle.std.specs.Prelude.{◌≡◌};
 ghost use Rattle.rules_lent.specs.Broken.{lent};
-ghost use Rattle.udx_c.specs.Shown.{flat_part, no_part, Looks};
+ghost use Rattle.udx_c.specs.Shown.{flat_part, header_byte, Looks};
 
 use constants::{HELD_WORDS, QUEUE_WORDS, SENT_WORDS};
-use udx_c_numbers::{FlatStream, FlatTotals, strange};
-use udx_c_part::{Part, look_place};
+use records::Stream;
+use udx_c_numbers::{FlatStream, FlatTotals};
+use udx_c_part::{Part, Store, look_place};
 
 // Where the next datagram is. C cannot be given a subslice, so this is a store, a start and a length.
 #[repr(C)]
-#[derive(Clone, Copy)]
+#[derive(Clone, Copy, Default)]
 pub struct FlatPart {
     pub start: usize,
     // 0 if no datagram is left to take, and in place of refusal 1.
@@ -18,24 +19,26 @@ pub struct FlatPart {
     pub header: u8,
 }
 
-fn no_flat_part() -> FlatPart
-    ensures { result ≡ no_part }
+fn header_byte(store: Store) -> u8
+    ensures { result ≡ header_byte store }
 {
-    FlatPart {
-        start: 0,
-        length: 0,
-        header: 0,
+    match store {
+        Store::Outgoing => 0,
+        Store::Headers => 1,
     }
 }
 
-impl From<Part> for FlatPart {
-    ghost from_gives = { λ p r. r ≡ flat_part p };
+impl From<Option<Part>> for FlatPart {
+    ghost from_gives = { λ part r. r ≡ flat_part part };
 
-    fn from(p: Part) -> FlatPart {
-        FlatPart {
-            start: p.start,
-            length: p.length,
-            header: p.header as u8,
+    fn from(part: Option<Part>) -> FlatPart {
+        match part {
+            None => FlatPart::default(),
+            Some(p) => FlatPart {
+                start: p.start,
+                length: p.length,
+                header: header_byte(p.store),
+            },
         }
     }
 }
@@ -55,11 +58,11 @@ pub fn udx_look(
         incoming.now headers.now)
         result }
 {
-    if strange(stream.ending) {
-        return no_flat_part();
-    }
+    let Ok(s) = Stream::try_from(stream) else {
+        return FlatPart::default();
+    };
     look_place(
-        stream.into(),
+        s,
         totals.into(),
         sent,
         held,

@@ -6,7 +6,8 @@ ghost use Rattle.udx_c_numbers.specs.Bytes.{is_strange};
 ghost use Rattle.udx_c.specs.Crosses.{Crosses};
 
 use constants::{HELD_WORDS, QUEUE_WORDS, SENT_WORDS};
-use udx_c_numbers::{FlatStep, FlatStream, FlatTotals, broken_step, strange};
+use records::Stream;
+use udx_c_numbers::{FlatStep, FlatStream, FlatTotals, broken_step};
 
 pub fn udx_read(
     stream: FlatStream,
@@ -27,11 +28,11 @@ pub fn udx_read(
         incoming.now headers.now))
         × (is_strange stream.ending ≡ true → buf.new ≡ buf.old) }
 {
-    if strange(stream.ending) {
+    let Ok(s) = Stream::try_from(stream) else {
         return broken_step(stream, totals);
-    }
+    };
     udx::read::read(
-        stream.into(),
+        s,
         totals.into(),
         sent,
         held,

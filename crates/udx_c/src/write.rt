@@ -5,7 +5,8 @@ ghost use Rattle.udx.specs.Agree.{Answers};
 ghost use Rattle.udx_c.specs.Crosses.{Crosses};
 
 use constants::{HELD_WORDS, QUEUE_WORDS, SENT_WORDS};
-use udx_c_numbers::{FlatStep, FlatStream, FlatTotals, broken_step, strange};
+use records::Stream;
+use udx_c_numbers::{FlatStep, FlatStream, FlatTotals, broken_step};
 
 pub fn udx_write(
     stream: FlatStream,
@@ -25,11 +26,11 @@ pub fn udx_write(
         (lent sent.new held.now queue.new outgoing.new incoming.now
         headers.now) }
 {
-    if strange(stream.ending) {
+    let Ok(s) = Stream::try_from(stream) else {
         return broken_step(stream, totals);
-    }
+    };
     udx::write::write(
-        stream.into(),
+        s,
         totals.into(),
         sent,
         held,

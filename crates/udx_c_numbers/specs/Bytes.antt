@@ -1,5 +1,6 @@
 -- The numbers that represent enums and flags at the C boundary; include/udx.h has the same list.
 use Rattle.error.specs.declared.Refusal.{Refusal}
+use Rattle.error.specs.declared.Refusal.TheVariants as refusal
 use Rattle.std.specs.Prelude.{ℕ, Bool, cond, ◌||◌, eqb, ltb, Result, Ok, Err, None, Some, Option}
 use Rattle.error.specs.declared.UdxError.{UdxError}
 use Rattle.error.specs.declared.UdxError.TheVariants as error
@@ -32,6 +33,10 @@ state_of n = cond (eqb n 0) state.Open (cond (eqb n 1) state.LocalClosed (cond (
 -- whether a byte is invalid
 abbrev pub is_strange : FlatEnding → Bool
 is_strange e = ltb 3 e.error || (ltb 3 e.state || ltb 1 e.ended)
+
+-- an invalid byte is a broken record, so refusal 1 applies
+abbrev pub broken_if : {A : Type 0} → Bool → A → Result A Refusal
+broken_if strange x = cond strange (Err refusal.BrokenRecords) (Ok x)
 
 abbrev pub ending_of : FlatEnding → Ending
 ending_of e = record { error = error_of e.error; state = state_of e.state; ended = eqb e.ended 1 }

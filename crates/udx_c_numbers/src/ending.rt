@@ -1,10 +1,11 @@
-// Enums and flags as bytes, and back.
-ghost use Rattle.std.specs.Prelude.{◌≡◌};
+// Enums and flags as bytes, and back: C passes and gets the numbers that include/udx.h lists.
+ghost use Rattle.std.specs.Prelude.{◌≡◌, eqb, ltb};
 ghost use Rattle.udx_c_numbers.specs.Bytes.{
   error_byte,
   error_of,
   state_byte,
   state_of,
+  broken_if,
   is_strange,
   ending_of,
   flat_ending,
@@ -19,22 +20,18 @@ use records::{Ending, StreamState};
 fn error_byte(error: Option<UdxError>) -> u8
     ensures { result ≡ error_byte error }
 {
-    match error {
-        None => 0,
-        Some(UdxError::ConnectionReset) => 1,
-        Some(UdxError::UnexpectedEof) => 2,
-        Some(UdxError::TimedOut) => 3,
-    }
+    error.map_or(0, |e| e as u8)
 }
 
-fn error_of(byte: u8) -> Option<UdxError>
-    ensures { result ≡ error_of byte }
+fn error_of(byte: u8) -> Result<Option<UdxError>, Refusal>
+    ensures { result ≡ broken_if (ltb 3 byte) (error_of byte) }
 {
     match byte {
-        0 => None,
-        1 => Some(UdxError::ConnectionReset),
-        2 => Some(UdxError::UnexpectedEof),
-        3..=255 => Some(UdxError::TimedOut),
+        0 => Ok(None),
+        1 => Ok(Some(UdxError::ConnectionReset)),
+        2 => Ok(Some(UdxError::UnexpectedEof)),
+        3 => Ok(Some(UdxError::TimedOut)),
+        _ => Err(Refusal::BrokenRecords),
     }
 }
 
@@ -44,33 +41,40 @@ fn state_byte(state: StreamState) -> u8
     state as u8
 }
 
-fn state_of(byte: u8) -> StreamState
-    ensures { result ≡ state_of byte }
+fn state_of(byte: u8) -> Result<StreamState, Refusal>
+    ensures { result ≡ broken_if (ltb 3 byte) (state_of byte) }
 {
     match byte {
-        0 => StreamState::Open,
-        1 => StreamState::LocalClosed,
-        2 => StreamState::RemoteClosed,
-        3..=255 => StreamState::BothClosed,
+        0 => Ok(StreamState::Open),
+        1 => Ok(StreamState::LocalClosed),
+        2 => Ok(StreamState::RemoteClosed),
+        3 => Ok(StreamState::BothClosed),
+        _ => Err(Refusal::BrokenRecords),
     }
 }
 
-// Whether a byte is invalid: C may pass any value.
-pub fn strange(e: FlatEnding) -> bool
-    ensures { result ≡ is_strange e }
+fn flag_of(byte: u8) -> Result<bool, Refusal>
+    ensures { result ≡ broken_if (ltb 1 byte) (eqb byte 1) }
 {
-    3 < e.error || 3 < e.state || 1 < e.ended
+    match byte {
+        0 => Ok(false),
+        1 => Ok(true),
+        _ => Err(Refusal::BrokenRecords),
+    }
 }
 
-impl From<FlatEnding> for Ending {
-    ghost from_gives = { λ e r. r ≡ ending_of e };
+// C may pass any byte: an invalid one is a broken record, and so refusal 1.
+impl TryFrom<FlatEnding> for Ending {
+    type Error = Refusal;
 
-    fn from(e: FlatEnding) -> Ending {
-        Ending {
-            error: error_of(e.error),
-            state: state_of(e.state),
-            ended: e.ended == 1,
-        }
+    ghost try_from_gives = { λ e r. r ≡ broken_if (is_strange e) (ending_of e) };
+
+    fn try_from(e: FlatEnding) -> Result<Ending, Refusal> {
+        Ok(Ending {
+            error: error_of(e.error)?,
+            state: state_of(e.state)?,
+            ended: flag_of(e.ended)?,
+        })
     }
 }
 

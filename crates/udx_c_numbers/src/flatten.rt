@@ -19,6 +19,7 @@ use crate::structs::{
     FlatClocks, FlatIds, FlatQueue, FlatReceiver, FlatSender, FlatStep, FlatStream, FlatTiming,
     FlatTotals,
 };
+use error::Refusal;
 use records::{Clocks, Ids, Opened, Queue, Receiver, Sender, Stream, Timing, Totals};
 use udx_steps::Step;
 
@@ -152,6 +153,7 @@ impl From<Step> for FlatStep {
     }
 }
 
+// No trait for Step and Opened: they are in crates of which neither knows the other.
 impl From<Opened> for FlatStep {
     ghost from_gives = { λ a r. r ≡ flat_opened a };
 
@@ -169,6 +171,7 @@ impl From<Opened> for FlatStep {
 }
 
 // Refusal 1, with stream and totals as received.
+#[tactic(auto, unfolding(crate::specs::Flat::broken_step))]
 pub fn broken_step(stream: FlatStream, totals: FlatTotals) -> FlatStep
     ensures { result ≡ broken_step stream totals }
 {
@@ -177,7 +180,7 @@ pub fn broken_step(stream: FlatStream, totals: FlatTotals) -> FlatStep
         totals,
         count: 0,
         segment: 0,
-        outcome: 4,
-        refusal: 1,
+        outcome: outcome_byte(Err(Refusal::BrokenRecords)),
+        refusal: Refusal::BrokenRecords.number(),
     }
 }

@@ -1,4 +1,4 @@
-// The records and the answers of a call as plain numbers for C, and back, by From impls. No function here has a precondition.
+// The records and the answers of a call as plain numbers for C, and back, by From and TryFrom impls. No function here has a precondition.
 #![tactic(auto)]
 
 mod ending;
@@ -6,7 +6,7 @@ mod flatten;
 mod streams;
 mod structs;
 
-pub use ending::{refusal_byte, strange};
+pub use ending::{outcome_byte, refusal_byte};
 pub use flatten::broken_step;
 pub use structs::{
     FlatClocks, FlatEnding, FlatIds, FlatQueue, FlatReceiver, FlatSender, FlatStep, FlatStream,

@@ -1,10 +1,12 @@
 // The records that C's numbers represent.
 ghost use Rattle.std.specs.Prelude.{◌≡◌};
+ghost use Rattle.udx_c_numbers.specs.Bytes.{broken_if, is_strange};
 ghost use Rattle.udx_c_numbers.specs.Flat.{ids_of, sender_of, receiver_of, queue_of, timing_of, clocks_of, stream_of, totals_of};
 
 use crate::structs::{
     FlatClocks, FlatIds, FlatQueue, FlatReceiver, FlatSender, FlatStream, FlatTiming, FlatTotals,
 };
+use error::Refusal;
 use records::{Clocks, Deadline, Ids, Queue, Receiver, Sender, Stream, Timing, Totals};
 use rtt::{Nanos, Rtt};
 
@@ -92,20 +94,22 @@ impl From<FlatClocks> for Clocks {
     }
 }
 
-impl From<FlatStream> for Stream {
-    ghost from_gives = { λ f r. r ≡ stream_of f };
+impl TryFrom<FlatStream> for Stream {
+    type Error = Refusal;
+
+    ghost try_from_gives = { λ f r. r ≡ broken_if (is_strange f.ending) (stream_of f) };
 
     #[tactic(auto, unfolding(crate::specs::Flat::stream_of))]
-    fn from(f: FlatStream) -> Stream {
-        Stream {
+    fn try_from(f: FlatStream) -> Result<Stream, Refusal> {
+        Ok(Stream {
             ids: f.ids.into(),
             sender: f.sender.into(),
             receiver: f.receiver.into(),
             queue: f.queue.into(),
             timing: f.timing.into(),
             clocks: f.clocks.into(),
-            ending: f.ending.into(),
-        }
+            ending: f.ending.try_into()?,
+        })
     }
 }
 

@@ -1,5 +1,6 @@
 // The records as C sees them: the groups of `records` with their fields, every field a plain number. include/udx.h says what each number
-// means.
+// means. They are structs of their own even where the fields are the same: `records` has no C layout, and C's must not move when a
+// record does.
 
 #[repr(C)]
 #[derive(Clone, Copy)]
@@ -87,7 +88,7 @@ pub struct FlatTotals {
     pub inflight_bytes: u64,
 }
 
-// What every call answers. `refusal` is 0 unless the outcome is 4.
+// What every call answers. C has no Result and no Option: `refusal` is 0 unless the outcome is 4.
 #[repr(C)]
 #[derive(Clone, Copy)]
 pub struct FlatStep {

@@ -6,6 +6,7 @@ use mathlib.Core.Path.{◌≡◌, refl, ap, sym, ◌∙◌}
 use mathlib.Core.List.{List, [], ◌∷◌}
 use mathlib.Core.Option as math
 use Rattle.std.specs.Prelude.{Option, None, Some}
+use Rattle.std.specs.Option.{option_map}
 use mathlib.Core.Bool.{Bool, true, false, cond, ◌&&◌, ◌||◌, not, true≢false}
 use lib.Dec.{ltb, eqb}
 use borrow.Author.Tests.{eqb-true}
@@ -16,6 +17,8 @@ use Rattle.model.specs.Stream as model
 use Rattle.model.specs.Rules.{rules}
 use Rattle.model.specs.Driving.{look, first_there}
 use Rattle.model.proofs.Gate.{and_left, and_right}
+use Rattle.records_words.specs.declared.Entry.{Entry}
+use Rattle.records_words.specs.declared.Entry.TheVariants as entry
 use Rattle.records_words.specs.Words.{sent_in, entry_of}
 use Rattle.records.specs.declared.Sender.{Sender}
 use Rattle.records.specs.declared.Stream.{Stream}
@@ -37,39 +40,40 @@ use Rattle.udx.specs.Look.{shown_of}
 use Rattle.udx.proofs.Unbroken.{unbroken, still_laid}
 use Rattle.udx.proofs.RefusalLaws.{refusal_one}
 use Rattle.udx_c_part.specs.declared.Part.{Part}
-use Rattle.udx_c_part.specs.Place.{no_part, header_part, packet_part, first_part, shown_part, looked_part, PartOf, LookedShown}
-use Rattle.udx_c_part.proofs.Parts.{empty_part, part_of, header_within, packet_within}
+use Rattle.udx_c_part.specs.Place.{header_part, packet_part, first_part, shown_part, looked_part, PartOf, Shows, LookedShown}
+use Rattle.udx_c_part.proofs.Parts.{part_of, header_within, packet_within}
 
 -- the part of what the search finds is the first part
-part_first : (outgoing : Slots model.Packet) (place : ℕ) (q : List model.Entry) → shown_part (first_shown outgoing place q) ≡ first_part outgoing place q
+part_first : (outgoing : Slots model.Packet) (place : ℕ) (q : List model.Entry) → option_map shown_part (first_shown outgoing place q) ≡ first_part outgoing place q
 part_first outgoing place [] = refl
 part_first outgoing place (model.state b ∷ q) = refl
 part_first outgoing place (model.packet n l ∷ q) = go (get outgoing n) (part_first outgoing place q)
   where
-    go : (o : math.Option model.Packet) → shown_part (first_shown outgoing place q) ≡ first_part outgoing place q
-        → shown_part (on o (first_shown outgoing place q) (λ p. Some (Stored n (length p.bytes)))) ≡ on o (first_part outgoing place q) (λ p. packet_part n (length p.bytes))
+    go : (o : math.Option model.Packet) → option_map shown_part (first_shown outgoing place q) ≡ first_part outgoing place q
+        → option_map shown_part (on o (first_shown outgoing place q) (λ p. Some (Stored n (length p.bytes))))
+        ≡ on o (first_part outgoing place q) (λ p. Some (packet_part n (length p.bytes)))
     go math.none e = e
     go (math.some p) e = refl
 
 module _ (s : Stream) (t : Totals) (l : Lent) (len : length l.queue ≡ 128) where
   -- refusal 1, a call's first test, does not apply to records that are laid out and obey the rules
-  pub looked_broken : broken_records s t l ≡ true → no_part ≡ looked_part s t l
+  pub looked_broken : broken_records s t l ≡ true → None ≡ looked_part s t l
   unfolding looked_part
   looked_broken h = go (laid_out s l) refl (rules (seen s t l)) refl
     where
-      rest : Part
-      rest = cond (ltb 0 (seen s t l).queue.left) (first_part (seen s t l).sender.outgoing s.queue.gone (seen s t l).queue.entries) no_part
+      rest : Option Part
+      rest = cond (ltb 0 (seen s t l).queue.left) (first_part (seen s t l).sender.outgoing s.queue.gone (seen s t l).queue.entries) None
 
-      go : (a : Bool) → laid_out s l ≡ a → (b : Bool) → rules (seen s t l) ≡ b → no_part ≡ cond (a && b) rest no_part
+      go : (a : Bool) → laid_out s l ≡ a → (b : Bool) → rules (seen s t l) ≡ b → None ≡ cond (a && b) rest None
       go true laid true kept = let e = rw (h, laid, kept) at (refusal_one s t l _ math.none len refl) in let z : ◌≡◌ {A = ℕ} 0 1 = cc in absurd (omega arith)
       go true laid false kept = refl
       go false laid b kept = refl
 
-  pub looked_found : broken_records s t l ≡ false → (x : Option Shown) → Finds s.queue s.sender l.sent l.queue x → shown_part x ≡ looked_part s t l
+  pub looked_found : broken_records s t l ≡ false → (x : Option Shown) → Finds s.queue s.sender l.sent l.queue x → option_map shown_part x ≡ looked_part s t l
   unfolding looked_part seen seen_queue
   looked_found h x f =
       let w = unbroken s t l len h in
-      rw (still_laid s l w.stores w.receiver w.words, w.kept) (ap shown_part (f l.outgoing l.headers) ∙ either (ltb 0 s.queue.left))
+      rw (still_laid s l w.stores w.receiver w.words, w.kept) (ap (option_map shown_part) (f l.outgoing l.headers) ∙ either (ltb 0 s.queue.left))
     where
       store : Slots model.Packet
       store = store_seen s.sender l.sent l.outgoing
@@ -77,7 +81,7 @@ module _ (s : Stream) (t : Totals) (l : Lent) (len : length l.queue ≡ 128) whe
       q : List model.Entry
       q = (seen_queue s.queue l.queue l.headers).entries
 
-      either : (b : Bool) → shown_part (cond b (first_shown store s.queue.gone q) None) ≡ cond b (first_part store s.queue.gone q) no_part
+      either : (b : Bool) → option_map shown_part (cond b (first_shown store s.queue.gone q) None) ≡ cond b (first_part store s.queue.gone q) None
       either true = part_first store s.queue.gone q
       either false = refl
 
@@ -88,7 +92,7 @@ module _ (s : Sender) (sent : List ℕ) (outgoing headers : Bytes) (stored : All
   abbrev PartShown : List ℕ → Type 0
   PartShown ws =
       let q = seen_entries headers place ws in
-      PartOf (first_there (store_seen s sent outgoing) q) outgoing headers (first_part (store_seen s sent outgoing) place q)
+      Shows (first_there (store_seen s sent outgoing) q) outgoing headers (first_part (store_seen s sent outgoing) place q)
 
   packet_shown : (n : ℕ) → is_there s sent n ≡ true → let p = sent_in sent (n % ceiling) in
       PartOf (cut outgoing_slot outgoing (n % ceiling) p.length) outgoing headers (packet_part n p.length)
@@ -98,33 +102,33 @@ module _ (s : Sender) (sent : List ℕ) (outgoing headers : Bytes) (stored : All
       part_of outgoing headers (packet_part n k) _ (packet_bytes outgoing (n % 32) k slots (omega arith) short) (packet_within outgoing headers n k short slots)
 
   part_shown : (ws : List ℕ) → place + state_words ws ≤ 64 → PartShown ws
-  part_shown [] h = empty_part outgoing headers
-  part_shown (w ∷ ws) h = go (entry_of w).state refl (part_shown ws)
+  part_shown [] h = refl
+  part_shown (w ∷ ws) h = go (entry_of w) refl (part_shown ws)
     where
-      n : ℕ
-      n = (entry_of w).number
-
-      go : (b : Bool) → (entry_of w).state ≡ b → (place + state_words ws ≤ 64 → PartShown ws) → PartShown (w ∷ ws)
-      go true e rest =
+      go : (x : Entry) → entry_of w ≡ x → (place + state_words ws ≤ 64 → PartShown ws) → PartShown (w ∷ ws)
+      go entry.State e rest =
           let below : place < 64 = let k = rw e at h in omega arith in
           rw e (part_of outgoing headers (header_part place) _ (state-bytes headers place places below) (header_within outgoing headers place below places))
-      go false e rest = rw e (there (is_there s sent n) refl (rest (rw e at h)))
+      go (entry.Packet x) e rest = rw e (there (is_there s sent x.number) refl (rest (rw e at h)))
         where
+          n : ℕ
+          n = x.number
+
           there : (b : Bool) → is_there s sent n ≡ b → PartShown ws
-              → let q = model.packet n (entry_of w).length ∷ seen_entries headers place ws in
-              PartOf (first_there (store_seen s sent outgoing) q) outgoing headers (first_part (store_seen s sent outgoing) place q)
+              → let q = model.packet n x.length ∷ seen_entries headers place ws in
+              Shows (first_there (store_seen s sent outgoing) q) outgoing headers (first_part (store_seen s sent outgoing) place q)
           there true z r =
               let k = (sent_in sent (n % ceiling)).length in
               rw (get_there s sent outgoing n, z, cut_length outgoing_slot outgoing (n % ceiling) k) (packet_shown n z)
           there false z r = rw (get_there s sent outgoing n, z) r
 
 -- shown if refusal 1 does not apply and entries are left to take, else nothing
-shown_cases : (laid kept left : Bool) (shown outgoing headers : Bytes) (p : Part) → (laid ≡ true → kept ≡ true → PartOf shown outgoing headers p)
-    → PartOf (cond laid (cond (kept && left) shown []) []) outgoing headers (cond (laid && kept) (cond left p no_part) no_part)
+shown_cases : (laid kept left : Bool) (shown outgoing headers : Bytes) (p : Option Part) → (laid ≡ true → kept ≡ true → Shows shown outgoing headers p)
+    → Shows (cond laid (cond (kept && left) shown []) []) outgoing headers (cond (laid && kept) (cond left p None) None)
 shown_cases true true true shown outgoing headers p h = h refl refl
-shown_cases true true false shown outgoing headers p h = empty_part outgoing headers
-shown_cases true false left shown outgoing headers p h = empty_part outgoing headers
-shown_cases false kept left shown outgoing headers p h = empty_part outgoing headers
+shown_cases true true false shown outgoing headers p h = refl
+shown_cases true false left shown outgoing headers p h = refl
+shown_cases false kept left shown outgoing headers p h = refl
 
 -- the lengths of the two stores
 fits : (a b c : Bool) → not (not a || (not b || not c)) ≡ true → (a ≡ true) × (c ≡ true)

@@ -4,7 +4,7 @@
 
 ghost use Rattle.std.specs.Prelude.{◌≡◌};
 ghost use Rattle.rules_lent.specs.Broken.{lent};
-ghost use Rattle.udx_c_part.specs.Place.{no_part, header_part, packet_part, shown_part, looked_part};
+ghost use Rattle.udx_c_part.specs.Place.{header_part, packet_part, shown_part, looked_part};
 
 use constants::{HELD_WORDS, QUEUE_WORDS, SENT_WORDS, UDX_HEADER_SIZE};
 use records::{Stream, Totals};
@@ -12,24 +12,19 @@ use records_places::{header_at, stored_at};
 use rules_lent::broken;
 use take_next::{Shown, next_shown};
 
+// The lent stores that have datagrams to take.
+#[derive(Clone, Copy)]
+pub enum Store {
+    Outgoing,
+    Headers,
+}
+
 // A part of a lent store.
 #[derive(Clone, Copy)]
 pub struct Part {
-    // Part of the header store, else of the outgoing store.
-    pub header: bool,
+    pub store: Store,
     pub start: usize,
-    // 0 if no datagram is left to take, and in place of refusal 1.
     pub length: usize,
-}
-
-fn no_part() -> Part
-    ensures { result ≡ no_part }
-{
-    Part {
-        header: false,
-        start: 0,
-        length: 0,
-    }
 }
 
 // The state packet at a place of the header store.
@@ -37,7 +32,7 @@ fn header_part(place: u32) -> Part
     ensures { result ≡ header_part place }
 {
     Part {
-        header: true,
+        store: Store::Headers,
         start: header_at(place),
         length: UDX_HEADER_SIZE,
     }
@@ -48,24 +43,24 @@ fn packet_part(n: u32, size: u32) -> Part
     ensures { result ≡ packet_part n size }
 {
     Part {
-        header: false,
+        store: Store::Outgoing,
         start: stored_at(n),
         length: size as usize,
     }
 }
 
-// The part of a store where the datagram shown is; the empty part if none is.
-fn shown_part(x: Option<Shown>) -> Part
+// The part of a store where the datagram shown is.
+fn shown_part(x: Shown) -> Part
     ensures { result ≡ shown_part x }
 {
     match x {
-        None => no_part(),
-        Some(Shown::State(place)) => header_part(place),
-        Some(Shown::Stored { number, length }) => packet_part(number, length),
+        Shown::State(place) => header_part(place),
+        Shown::Stored { number, length } => packet_part(number, length),
     }
 }
 
-// "a part of the outgoing store or of the header store, an empty part when nothing is left to take and also in place of refusal 1"
+// "a part of the outgoing store or of the header store, an empty part when nothing is left to take and also in place of refusal 1"; none is
+// the empty part that C gets.
 pub fn look_place(
     s: Stream,
     t: Totals,
@@ -75,13 +70,13 @@ pub fn look_place(
     outgoing: &[u8],
     incoming: &[u8],
     headers: &[u8],
-) -> Part
+) -> Option<Part>
     ensures { result ≡ looked_part s t
         (lent sent.now held.now queue.now outgoing.now
         incoming.now headers.now) }
 {
     if broken(s, t, sent, held, queue, outgoing, incoming, headers) {
-        return no_part();
+        return None;
     }
-    shown_part(next_shown(s.queue, s.sender, sent, queue))
+    next_shown(s.queue, s.sender, sent, queue).map(shown_part)
 }

@@ -1,5 +1,6 @@
 -- `udx_c_part::look_place` meets its contract: no part in place of refusal 1, else the part that the search finds.
 use mathlib.Core.Path.{sym, ◌∙◌}
+use Rattle.std.proofs.Common.{rules}
 use Rattle.records.specs.Seen.{Lent}
 use Rattle.rules_lent.specs.Broken.{lent}
 use Rattle.udx.proofs.Unbroken.{unbroken}
@@ -11,7 +12,7 @@ returns-then-broken c =
     let a = c.args in
     let l : Lent = lent a.sent.now a.held.now a.queue.now a.outgoing.now a.incoming.now a.headers.now in
     let (is, len) = c.broken.ensures in
-    c.no_part.ensures ∙ looked_broken a.s a.t l len (sym is ∙ c.if-broken.true)
+    looked_broken a.s a.t l len (sym is ∙ c.if-broken.true)
 
 pub next_shown-requires : goal.next_shown-requires
 next_shown-requires c =
@@ -25,4 +26,5 @@ returns c =
     let a = c.args in
     let l : Lent = lent a.sent.now a.held.now a.queue.now a.outgoing.now a.incoming.now a.headers.now in
     let (is, len) = c.broken.ensures in
-    c.shown_part.ensures ∙ looked_found a.s a.t l len (sym is ∙ c.if-broken.false) c.next_shown.result c.next_shown.ensures
+    let found = looked_found a.s a.t l len (sym is ∙ c.if-broken.false) c.next_shown.result c.next_shown.ensures in
+    search rules
