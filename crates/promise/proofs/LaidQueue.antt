@@ -15,8 +15,9 @@ use Rattle.model.specs.Rules.{states}
 use Rattle.model.specs.Stream as model
 use Rattle.model.proofs.Lists.{All}
 use Rattle.records_words.specs.declared.Entry.{Entry}
-use Rattle.records_words.specs.Words.{entry_of, entry_word}
-use Rattle.records_words.proofs.WordLaws.{entry_back}
+use Rattle.records_words.specs.declared.Entry.TheVariants.{State, Packet}
+use Rattle.records_words.specs.Words.{entry_word}
+use Rattle.records_words.proofs.WordLaws.{entry_back, state_back}
 use Rattle.records.specs.declared.Queue.{Queue}
 use Rattle.records.specs.Put.{put}
 use Rattle.records.specs.Cut.{cut, header_slot}
@@ -26,8 +27,8 @@ use Rattle.records.proofs.Cut.{head_is}
 use Rattle.records.proofs.SeenQueue.{entries_states}
 
 abbrev entry_for : model.Entry → Entry
-entry_for (model.state b) = record { number = 0; length = 20; state = true }
-entry_for (model.packet n l) = record { number = n; length = l; state = false }
+entry_for (model.state b) = State
+entry_for (model.packet n l) = Packet (record { number = n; length = l })
 
 abbrev words_for : List model.Entry → List ℕ
 words_for [] = []
@@ -64,19 +65,15 @@ entries_back : (q : List model.Entry) (pre rest : Bytes) (place : ℕ) → All E
     → seen_entries (pre ++ (headers_for q ++ rest)) place (words_for q) ≡ q
 entries_back [] pre rest place h e = refl
 entries_back (model.state b ∷ q) pre rest place h e =
-    let x = entry_for (model.state b) in
-    let back : entry_of (entry_word x) ≡ x = entry_back x (omega arith) (omega arith) in
     let next : length (pre ++ b) ≡ suc place * header_slot = length-append pre b ∙ rw (e, h.0, head_is) (omega arith) in
     let one : pre ++ ((b ++ headers_for q) ++ rest) ≡ pre ++ (b ++ (headers_for q ++ rest)) = ap (λ (z : Bytes). pre ++ z) (append_assoc b (headers_for q) rest) in
     let two : pre ++ (b ++ (headers_for q ++ rest)) ≡ (pre ++ b) ++ (headers_for q ++ rest) = sym (append_assoc pre b (headers_for q ++ rest)) in
     ap (λ (z : Bytes). seen_entries z place (words_for (model.state b ∷ q))) one
-    ∙ rw back
+    ∙ rw state_back
     (ap₂ (λ (y : Bytes) (ys : List model.Entry). model.state y ∷ ys) (cut_at pre b (headers_for q ++ rest) place e h.0)
     (ap (λ (z : Bytes). seen_entries z (suc place) (words_for q)) two ∙ entries_back q (pre ++ b) rest (suc place) h.1 next))
 entries_back (model.packet n l ∷ q) pre rest place h e =
-    let x = entry_for (model.packet n l) in
-    let back : entry_of (entry_word x) ≡ x = entry_back x h.0.1 h.0.0 in
-    rw back (ap (λ (ys : List model.Entry). model.packet n l ∷ ys) (entries_back q pre rest place h.1 e))
+    rw (entry_back (record { number = n; length = l }) h.0.1 h.0.0) (ap (λ (ys : List model.Entry). model.packet n l ∷ ys) (entries_back q pre rest place h.1 e))
 
 module _ (q : model.Queue) where
   -- the counts of a queue from which nothing has been taken
