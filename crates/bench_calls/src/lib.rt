@@ -1,5 +1,6 @@
 // The calls that bench/ times, on plain numbers, as C makes them (crate bench_archive exports them). `numbers` has the order of `stream`
-// and `totals` below.
+// and `totals` below, which is the C timer's: so they are turned into records by hand, and by no From impl. What is lent has a parameter
+// for each array, as C lends it.
 #![tactic(auto)]
 
 use constants::{HELD_WORDS, QUEUE_WORDS, SENT_WORDS};
@@ -9,6 +10,7 @@ use records::{
 };
 use rtt::{Nanos, Rtt};
 
+// A cast may lose nothing, so the upper bits are dropped first. One line, as in rules_test.
 fn narrow(v: u64) -> u32 {
     (v % 4_294_967_296) as u32
 }
@@ -76,12 +78,9 @@ pub fn stream(n: &[u64; 24]) -> Stream {
 
 pub fn totals(n: &[u64; 24]) -> Totals {
     Totals {
-        tx_packets: 0,
-        tx_bytes: 0,
-        rx_packets: 0,
-        rx_bytes: 0,
         inflight_packets: n[19],
         inflight_bytes: n[20],
+        ..Totals::default()
     }
 }
 

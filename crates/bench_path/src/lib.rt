@@ -1,6 +1,6 @@
 // The path of a packet between two ends, as C functions to be timed: write, drive, take, deliver and read. Each function makes all the
 // calls of its kind in a round, so that little but the calls is timed. `numbers` has the order of bench_calls. What is lent has a parameter
-// for each array, as C lends it.
+// for each array, as C lends it, and each kind of call its own loop: one for all would take a closure over six lent arrays.
 #![tactic(auto)]
 
 use bench_calls::{stream, totals};
@@ -13,41 +13,12 @@ fn unpacked(numbers: &[u64; 24]) -> Step {
     nothing(stream(numbers), totals(numbers))
 }
 
-// The previous step, when there is no call to make.
+// The step when there is no call to make.
 fn unchanged(r: Step) -> Step {
     nothing(r.stream, r.totals)
 }
 
-// Writes the packet of `size` bytes at `at`, if it is whole.
-fn write_one(
-    r: Step,
-    sent: &mut [u64; SENT_WORDS],
-    held: &[u64; HELD_WORDS],
-    queue: &mut [u64; QUEUE_WORDS],
-    outgoing: &mut [u8],
-    incoming: &[u8],
-    headers: &[u8],
-    bytes: &[u8],
-    at: usize,
-    size: usize,
-) -> Step {
-    if bytes.len() < size || bytes.len() - size < at {
-        return unchanged(r);
-    }
-    udx::write::write(
-        r.stream,
-        r.totals,
-        sent,
-        held,
-        queue,
-        outgoing,
-        incoming,
-        headers,
-        &bytes[at..at + size],
-    )
-}
-
-// Writes one packet at a time, until one is not accepted.
+// Writes one packet of `size` bytes at a time, 32 at most, until one is not accepted.
 fn write(
     r: Step,
     sent: &mut [u64; SENT_WORDS],
@@ -59,11 +30,14 @@ fn write(
     bytes: &[u8],
     size: usize,
 ) -> Step {
+    if size == 0 {
+        return unchanged(r);
+    }
     let mut w = r;
     let mut count: usize = 0;
-    for _ in 0..32 {
-        w = write_one(
-            w, sent, held, queue, outgoing, incoming, headers, bytes, count, size,
+    for packet in bytes.chunks_exact(size).take(32) {
+        w = udx::write::write(
+            w.stream, w.totals, sent, held, queue, outgoing, incoming, headers, packet,
         );
         if w.count == 0 {
             break;
@@ -96,34 +70,6 @@ fn drive(
     )
 }
 
-// Takes the next batch into the buffer at `at`.
-fn take_one(
-    r: Step,
-    sent: &mut [u64; SENT_WORDS],
-    held: &[u64; HELD_WORDS],
-    queue: &[u64; QUEUE_WORDS],
-    outgoing: &[u8],
-    incoming: &[u8],
-    headers: &[u8],
-    buf: &mut [u8],
-    at: usize,
-) -> Step {
-    if buf.len() < at {
-        return unchanged(r);
-    }
-    udx::take::take(
-        r.stream,
-        r.totals,
-        sent,
-        held,
-        queue,
-        outgoing,
-        incoming,
-        headers,
-        &mut buf[at..],
-    )
-}
-
 // Takes batches until no entry is left: a queue of 128 entries has 13 batches of ten.
 fn take(
     r: Step,
@@ -141,46 +87,19 @@ fn take(
         if w.stream.queue.left == 0 {
             break;
         }
-        w = take_one(
-            w, sent, held, queue, outgoing, incoming, headers, buf, count,
+        let Some(room) = buf.get_mut(count..) else {
+            break;
+        };
+        w = udx::take::take(
+            w.stream, w.totals, sent, held, queue, outgoing, incoming, headers, room,
         );
         count = count.wrapping_add(w.count);
     }
     Step { count, ..w }
 }
 
-// Delivers the datagram of `size` bytes at `at`, if it is whole.
-fn deliver_one(
-    r: Step,
-    sent: &mut [u64; SENT_WORDS],
-    held: &mut [u64; HELD_WORDS],
-    queue: &mut [u64; QUEUE_WORDS],
-    outgoing: &[u8],
-    incoming: &mut [u8],
-    headers: &mut [u8],
-    line: &[u8],
-    at: usize,
-    size: usize,
-    clock: u64,
-) -> Step {
-    if line.len() < size || line.len() - size < at {
-        return unchanged(r);
-    }
-    udx::deliver::deliver(
-        r.stream,
-        r.totals,
-        sent,
-        held,
-        queue,
-        outgoing,
-        incoming,
-        headers,
-        &line[at..at + size],
-        Nanos(clock),
-    )
-}
-
-// Delivers the datagrams that are not lost, of 128 at most: `lost` has a byte for each, 0 if it arrives.
+// Delivers the datagrams of `size` bytes that are not lost, of 128 at most: `lost` has a byte for each, 0 if it arrives: bytes, as C
+// lends them.
 fn deliver(
     r: Step,
     sent: &mut [u64; SENT_WORDS],
@@ -194,49 +113,30 @@ fn deliver(
     lost: &[u8],
     clock: u64,
 ) -> Step {
+    if size == 0 {
+        return unchanged(r);
+    }
     let mut w = r;
-    let mut at: usize = 0;
-    for lost in lost.iter().take(128) {
+    for (datagram, lost) in line.chunks_exact(size).zip(lost).take(128) {
         if *lost == 0 {
-            w = deliver_one(
-                w, sent, held, queue, outgoing, incoming, headers, line, at, size, clock,
+            w = udx::deliver::deliver(
+                w.stream,
+                w.totals,
+                sent,
+                held,
+                queue,
+                outgoing,
+                incoming,
+                headers,
+                datagram,
+                Nanos(clock),
             );
         }
-        at = at.wrapping_add(size);
     }
     w
 }
 
-// Reads `size` bytes at most into the buffer at `at`.
-fn read_one(
-    r: Step,
-    sent: &[u64; SENT_WORDS],
-    held: &mut [u64; HELD_WORDS],
-    queue: &[u64; QUEUE_WORDS],
-    outgoing: &[u8],
-    incoming: &[u8],
-    headers: &[u8],
-    buf: &mut [u8],
-    at: usize,
-    size: usize,
-) -> Step {
-    if buf.len() < size || buf.len() - size < at {
-        return unchanged(r);
-    }
-    udx::read::read(
-        r.stream,
-        r.totals,
-        sent,
-        held,
-        queue,
-        outgoing,
-        incoming,
-        headers,
-        &mut buf[at..at + size],
-    )
-}
-
-// Reads one packet at a time, until a read puts nothing.
+// Reads packets of `size` bytes one at a time, 33 at most, until a read puts nothing.
 fn read(
     r: Step,
     sent: &[u64; SENT_WORDS],
@@ -248,11 +148,14 @@ fn read(
     buf: &mut [u8],
     size: usize,
 ) -> Step {
+    if size == 0 {
+        return unchanged(r);
+    }
     let mut w = r;
     let mut count: usize = 0;
-    for _ in 0..33 {
-        w = read_one(
-            w, sent, held, queue, outgoing, incoming, headers, buf, count, size,
+    for part in buf.chunks_exact_mut(size).take(33) {
+        w = udx::read::read(
+            w.stream, w.totals, sent, held, queue, outgoing, incoming, headers, part,
         );
         if w.count == 0 {
             break;

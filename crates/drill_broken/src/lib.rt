@@ -4,10 +4,12 @@
 
 mod breaking;
 
-ghost use Rattle.std.specs.Prelude.{◌+◌, ◌≤◌, length};
+ghost use Rattle.std.specs.Prelude.{◌≡◌, ◌+◌, ◌≤◌, length};
+ghost use Rattle.drill_broken.specs.Fresh.{FreshSpare};
 
 use breaking::broken;
 use constants::{HEADER_STORE, INCOMING_STORE, OUTGOING_STORE};
+use drill_script::{DrillCall, Spoil};
 use error::{Outcome, Refusal};
 use packet::Header;
 use rtt::Nanos;
@@ -30,39 +32,13 @@ pub struct Spare {
 
 impl Spare {
     #[inline(always)]
-    pub fn fresh() -> Self {
+    pub fn fresh() -> Self
+        ensures { FreshSpare result }
+    {
         Spare {
             outgoing: [0; SPARE_OUTGOING],
             incoming: [0; SPARE_INCOMING],
             headers: [0; SPARE_HEADERS],
-        }
-    }
-}
-
-#[derive(Clone, Copy)]
-enum DrillCall {
-    Open,
-    Write,
-    Drive,
-    Take,
-    Deliver,
-    Read,
-    Close,
-    Look,
-}
-
-// The calls 0 to 7 of docs/DRILL.md; a script has no higher number.
-impl From<u8> for DrillCall {
-    fn from(number: u8) -> Self {
-        match number {
-            0 => DrillCall::Open,
-            1 => DrillCall::Write,
-            2 => DrillCall::Drive,
-            3 => DrillCall::Take,
-            4 => DrillCall::Deliver,
-            5 => DrillCall::Read,
-            6 => DrillCall::Close,
-            _ => DrillCall::Look,
         }
     }
 }
@@ -77,7 +53,8 @@ fn take(
     session_ends::take(e, outgoing, incoming, headers, &mut buf).outcome
 }
 
-// Delivers a datagram that carries nothing: type 0, the end's id, and all else 0.
+// Delivers a datagram that carries nothing: type 0, the end's id, and all else 0. The header is spelt out: one of zeros means nothing
+// elsewhere.
 fn deliver(
     e: SessionEnd,
     clock: Nanos,
@@ -119,7 +96,8 @@ fn look(
     }
 }
 
-// Three slices here, and three arrays in `make_broken`: the borrow check does not cover slices of three fields behind one reference to a struct.
+// The one match that makes a call. Three slices here, and three arrays in `make_broken`: the borrow check does not cover slices of three
+// fields behind one reference to a struct.
 fn make(
     call: DrillCall,
     e: SessionEnd,
@@ -155,35 +133,31 @@ fn spoilt(which: u8, short: u8, long: u8, size: usize) -> usize
     size
 }
 
-// Breaks thing `which` and makes the call, lent as much of each spare store as `which` says.
+// Breaks the thing and makes the call, lent as much of each spare store as `which` says.
 fn make_broken(
-    call: DrillCall,
     e: SessionEnd,
-    which: u8,
-    clock: Nanos,
+    x: Spoil,
     outgoing: &mut [u8; SPARE_OUTGOING],
     incoming: &mut [u8; SPARE_INCOMING],
     headers: &mut [u8; SPARE_HEADERS],
 ) -> Result<Outcome, Refusal> {
-    let o = spoilt(which, 1, 2, OUTGOING_STORE);
-    let i = spoilt(which, 3, 4, INCOMING_STORE);
-    let h = spoilt(which, 5, 6, HEADER_STORE);
+    let o = spoilt(x.which, 1, 2, OUTGOING_STORE);
+    let i = spoilt(x.which, 3, 4, INCOMING_STORE);
+    let h = spoilt(x.which, 5, 6, HEADER_STORE);
     make(
-        call,
-        broken(e, which),
-        clock,
+        x.call,
+        broken(e, x.which),
+        x.clock,
         &mut outgoing[..o],
         &mut incoming[..i],
         &mut headers[..h],
     )
 }
 
-// Makes call `number` with thing `which` broken.
+// Makes the call with the thing broken.
 pub fn spoil(
     e: SessionEnd,
-    which: u8,
-    number: u8,
-    clock: Nanos,
+    x: Spoil,
     stores: &EndStores,
     spare: &mut Spare,
 ) -> Result<Outcome, Refusal> {
@@ -191,10 +165,8 @@ pub fn spoil(
     spare.incoming[..INCOMING_STORE].copy_from_slice(&stores.incoming);
     spare.headers[..HEADER_STORE].copy_from_slice(&stores.headers);
     make_broken(
-        DrillCall::from(number),
         e,
-        which,
-        clock,
+        x,
         &mut spare.outgoing,
         &mut spare.incoming,
         &mut spare.headers,

@@ -1,4 +1,5 @@
-// Formats the drill's output lines, each at the start of a buffer.
+// Formats the drill's output lines, each at the start of a buffer, piece by piece with what session_text has for it. An end is a number
+// here as in the script, 0 or 1: an enum would be made of it and turned back into it.
 #![tactic(auto)]
 
 ghost use Rattle.std.specs.Prelude.{◌+◌, ◌*◌, ◌≤◌, length};
@@ -38,6 +39,7 @@ impl DrillName {
     }
 }
 
+// Like session_text's `put_name`, for this crate's enum; a trait for both would be longer.
 fn put_name(out: &mut [u8], name: DrillName) -> usize
     requires { 7 ≤ length out.old }
     ensures { result ≤ 7 }

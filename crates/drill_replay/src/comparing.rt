@@ -1,10 +1,10 @@
 // Compares a script's lines with its recorded answer.
-ghost use Rattle.std.specs.Prelude.{length};
+ghost use Rattle.std.specs.Prelude.{◌≡◌, length};
+ghost use Rattle.drill_replay.specs.Kinds.{kind_of};
 ghost use Rattle.session_turn.specs.Turned.{Turned};
 
-use drill_turn::Spare;
-use session_text::LINE;
-use session_turn::{EndStores, Ends, SCRATCH, Turn};
+use drill_turn::DrillLent;
+use session_turn::{Ends, Turn};
 
 // What runs a script.
 #[derive(Clone, Copy)]
@@ -13,8 +13,10 @@ pub enum Kind {
     Drill,
 }
 
-// The number of a kind in the file: 0 session, 1 drill.
+// The number of a kind in the file: 0 session, 1 drill. The file has no other, and a drill runs every script, so none is refused.
 impl From<u8> for Kind {
+    ghost from_gives = { λ number kind. kind ≡ kind_of number };
+
     fn from(number: u8) -> Self {
         match number {
             0 => Kind::Session,
@@ -28,23 +30,14 @@ impl From<u8> for Kind {
 pub struct Difference {
     // How many lines are the same before it.
     pub lines: u64,
-    // Where the answer's next line starts, and the length of the line that was put instead.
+    // Where the answer's next line starts, and the length of the line that was put instead, which is at the front of the lent one (a
+    // length, since a slice would keep that lent); none if the script puts no further line.
     pub at: usize,
-    pub len: usize,
-}
-
-// What a run of a script is lent: what is lent with each end, and the buffers.
-#[derive(Drop)]
-pub struct ReplayLent {
-    pub zero: EndStores,
-    pub one: EndStores,
-    pub scratch: [u8; SCRATCH],
-    pub spare: Spare,
-    pub line: [u8; LINE],
+    pub len: Option<usize>,
 }
 
 // Runs one command of a script of either kind.
-fn turn(kind: Kind, ends: Ends, script: &[u8], at: usize, lent: &mut ReplayLent) -> Turn
+fn turn(kind: Kind, ends: Ends, script: &[u8], at: usize, lent: &mut DrillLent) -> Turn
     ensures { Turned (length script.now) at result }
 {
     match kind {
@@ -57,22 +50,13 @@ fn turn(kind: Kind, ends: Ends, script: &[u8], at: usize, lent: &mut ReplayLent)
             &mut lent.scratch,
             &mut lent.line,
         ),
-        Kind::Drill => drill_turn::run_one(
-            ends,
-            script,
-            at,
-            &mut lent.zero,
-            &mut lent.one,
-            &mut lent.scratch,
-            &mut lent.spare,
-            &mut lent.line,
-        ),
+        Kind::Drill => drill_turn::run_one(ends, script, at, lent),
     }
 }
 
 // Whether the answer continues at `at` with this line.
 fn goes_on(answer: &[u8], at: usize, line: &[u8]) -> bool {
-    at <= answer.len() && answer[at..].starts_with(line)
+    answer.get(at..).is_some_and(|rest| rest.starts_with(line))
 }
 
 // Runs a script from fresh ends up to the first line that differs from the answer's; none if all are the same.
@@ -80,19 +64,20 @@ pub fn compare(
     kind: Kind,
     script: &[u8],
     answer: &[u8],
-    lent: &mut ReplayLent,
+    lent: &mut DrillLent,
 ) -> Option<Difference> {
     let mut ends = session_turn::open_ends(&lent.zero, &lent.one);
     let mut from: usize = 0;
     let mut at: usize = 0;
     let mut lines: u64 = 0;
+    // No `for`: only a command's turn says where the next command starts.
     while from < script.len() {
         let t = turn(kind, ends, script, from, lent);
         if !goes_on(answer, at, &lent.line[..t.len]) {
             return Some(Difference {
                 lines,
                 at,
-                len: t.len,
+                len: Some(t.len),
             });
         }
         at = at.wrapping_add(t.len);
@@ -103,6 +88,10 @@ pub fn compare(
     if at == answer.len() {
         None
     } else {
-        Some(Difference { lines, at, len: 0 })
+        Some(Difference {
+            lines,
+            at,
+            len: None,
+        })
     }
 }

@@ -6,17 +6,15 @@ mod comparing;
 mod reading;
 mod reporting;
 
-use comparing::{ReplayLent, compare};
-use drill_turn::Spare;
+use comparing::compare;
+use drill_turn::DrillLent;
 use reading::{NoScript, read_next};
-use reporting::{Tally, front, report, summary};
-use session_text::LINE;
-use session_turn::{EndStores, SCRATCH};
+use reporting::{Tally, report, summary};
 use std::fs::File;
 use std::io;
 use std::io::{Read, Write};
 
-// The most bytes that a script or an answer may have.
+// The most bytes that a script or an answer may have: each is read into a buffer of this size, since there is no heap.
 const MOST: usize = 65_536;
 
 // Runs all scripts of the file, a million at most, and returns why there was no next.
@@ -25,7 +23,7 @@ fn run<R: Read, W: Write>(
     out: &mut W,
     script: &mut [u8; MOST],
     answer: &mut [u8; MOST],
-    lent: &mut ReplayLent,
+    lent: &mut DrillLent,
 ) -> io::Result<(Tally, NoScript)> {
     let mut tally = Tally { same: 0, differ: 0 };
     for _ in 0..1_000_000 {
@@ -33,9 +31,8 @@ fn run<R: Read, W: Write>(
             Ok(next) => next,
             Err(why) => return Ok((tally, why)),
         };
-        let answered = front(answer, next.answer);
-        let found = compare(next.kind, front(script, next.script), answered, lent);
-        tally = report(out, tally, found, answered, &lent.line)?;
+        let found = compare(next.kind, next.script, next.answer, lent);
+        tally = report(out, tally, found, next.answer, &lent.line)?;
     }
     Ok((tally, NoScript::End))
 }
@@ -48,13 +45,7 @@ fn main(rt: HostRuntime) -> io::Result<()> {
     let mut out = rt.stdout();
     let mut script = [0u8; MOST];
     let mut answer = [0u8; MOST];
-    let mut lent = ReplayLent {
-        zero: EndStores::fresh(),
-        one: EndStores::fresh(),
-        scratch: [0; SCRATCH],
-        spare: Spare::fresh(),
-        line: [0; LINE],
-    };
+    let mut lent = DrillLent::fresh();
     let (tally, last) = run(&mut from, &mut out, &mut script, &mut answer, &mut lent)?;
     summary(&mut out, tally, last)
 }

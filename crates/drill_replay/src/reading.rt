@@ -4,12 +4,12 @@ use program_io::read_full;
 use std::io;
 use std::io::Read;
 
-// A script's kind, its length and its answer's length.
+// A script, in the front of its buffer, and the answer that it is to have, in the front of another.
 #[derive(Clone, Copy)]
-pub struct NextScript {
+pub struct NextScript<'a> {
     pub kind: Kind,
-    pub script: usize,
-    pub answer: usize,
+    pub script: &'a [u8],
+    pub answer: &'a [u8],
 }
 
 // Why there is no next script.
@@ -21,19 +21,27 @@ pub enum NoScript {
     Cut,
 }
 
-fn read_part<R: Read>(from: &mut R, buf: &mut [u8], n: usize) -> io::Result<bool> {
-    if n <= buf.len() {
-        return Ok(read_full(from, &mut buf[..n])? == n);
+// Reads n bytes into the front of buf; none if the file or buf has fewer.
+fn read_part<'a, R: Read>(
+    from: &mut R,
+    buf: &'a mut [u8],
+    n: usize,
+) -> io::Result<Option<&'a [u8]>> {
+    let Some(part) = buf.get_mut(..n) else {
+        return Ok(None);
+    };
+    if read_full(from, part)? == n {
+        return Ok(Some(part));
     }
-    Ok(false)
+    Ok(None)
 }
 
-// Reads the script and the answer into the start of their buffers.
-pub fn read_next<R: Read>(
+// Reads the next script and its answer.
+pub fn read_next<'a, R: Read>(
     from: &mut R,
-    script: &mut [u8],
-    answer: &mut [u8],
-) -> io::Result<Result<NextScript, NoScript>> {
+    script: &'a mut [u8],
+    answer: &'a mut [u8],
+) -> io::Result<Result<NextScript<'a>, NoScript>> {
     let mut head = [0u8; 9];
     let got = read_full(from, &mut head)?;
     if got == 0 {
@@ -42,13 +50,15 @@ pub fn read_next<R: Read>(
     if got != 9 {
         return Ok(Err(NoScript::Cut));
     }
-    let next = NextScript {
-        kind: Kind::from(head[0]),
-        script: session_script::u32_at(&head, 1) as usize,
-        answer: session_script::u32_at(&head, 5) as usize,
+    let Some(script) = read_part(from, script, session_script::u32_at(&head, 1) as usize)? else {
+        return Ok(Err(NoScript::Cut));
     };
-    if read_part(from, script, next.script)? && read_part(from, answer, next.answer)? {
-        return Ok(Ok(next));
-    }
-    Ok(Err(NoScript::Cut))
+    let Some(answer) = read_part(from, answer, session_script::u32_at(&head, 5) as usize)? else {
+        return Ok(Err(NoScript::Cut));
+    };
+    Ok(Ok(NextScript {
+        kind: Kind::from(head[0]),
+        script,
+        answer,
+    }))
 }

@@ -12,10 +12,7 @@ pub struct Tally {
 
 // The line that starts at `at`, without its newline; empty if it has none.
 fn line_at(answer: &[u8], at: usize) -> &[u8] {
-    if answer.len() < at {
-        return &[];
-    }
-    let rest = &answer[at..];
+    let rest = answer.get(at..).unwrap_or(&[]);
     match rest.iter().position(|b| *b == b'\n') {
         Some(n) => &rest[..n],
         None => &[],
@@ -34,11 +31,10 @@ fn print_difference<W: Write>(
     write!(out, "script {script}, line {number}\n  recorded: ")?;
     out.write_all(line_at(answer, d.at))?;
     out.write_all(b"\n  put:      ")?;
-    out.write_all(front(line, d.len))?;
-    if d.len == 0 {
-        out.write_all(b"\n")?;
+    match d.len {
+        Some(n) => out.write_all(line.get(..n).unwrap_or(line)),
+        None => out.write_all(b"\n"),
     }
-    Ok(())
 }
 
 // Counts one more script, and prints the first difference.
@@ -74,9 +70,4 @@ pub fn summary<W: Write>(out: &mut W, t: Tally, last: NoScript) -> io::Result<()
         NoScript::End => Ok(()),
         NoScript::Cut => out.write_all(b"the file ends in the middle of a script\n"),
     }
-}
-
-// The first n bytes, or all of them if there are fewer.
-pub fn front(bytes: &[u8], n: usize) -> &[u8] {
-    &bytes[..n.min(bytes.len())]
 }

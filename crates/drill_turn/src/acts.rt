@@ -16,8 +16,7 @@ use session_turn::{Acted, EndStores, SCRATCH};
 // The n bytes of a command from `place` on, or none if the command is too short.
 fn part(s: &[u8], place: u8, n: u16) -> &[u8] {
     let at = place as usize;
-    let end = at + n as usize;
-    if end <= s.len() { &s[at..end] } else { &[] }
+    s.get(at..at + n as usize).unwrap_or(&[])
 }
 
 fn raw(e: SessionEnd, r: Raw, s: &[u8], mine: &mut EndStores, line: &mut [u8; LINE]) -> Acted
@@ -40,7 +39,7 @@ fn any_held(held: &[u64; HELD_WORDS], from: u32, to: u32) -> bool {
     (0..STORE_SLOTS)
         .map(|i| from.wrapping_add(i))
         .take_while(|n| *n < to)
-        .any(|n| records::is_held(records::get_held(held, n), n))
+        .any(|n| records::find_held(held, n).is_some())
 }
 
 // What base requires: nothing stored, held, unread or queued, largest ack 0 and no error.
@@ -204,11 +203,11 @@ fn spoil(
 ) -> usize
     ensures { result ≤ 8_400 }
 {
-    let outcome = drill_broken::spoil(e, x.which, x.call, x.clock, mine, spare);
+    let outcome = drill_broken::spoil(e, x, mine, spare);
     drill_lines::put_line(line, DrillName::Spoil, x.end, outcome)
 }
 
-// Runs a drill command; s starts with its bytes.
+// Runs a drill command; s starts with its bytes. The one match that runs a command.
 pub fn act(
     e: SessionEnd,
     drill: Drill,

@@ -2,8 +2,9 @@
 #![tactic(auto)]
 
 mod acts;
+mod lent;
 mod numbers;
 mod running;
 
-pub use drill_broken::Spare;
+pub use lent::DrillLent;
 pub use running::run_one;

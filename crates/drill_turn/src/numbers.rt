@@ -1,25 +1,7 @@
-// An end's numbers, as the drill prints them.
-use error::UdxError;
-use records::{Queue, StreamState};
+// An end's numbers, as the drill prints them (docs/DRILL.md). Error and state have C's numbers, but the drill makes the calls below C's
+// boundary and so uses none of its crates.
+use records::Queue;
 use session_ends::SessionEnd;
-
-fn error_number(error: Option<UdxError>) -> u64 {
-    match error {
-        None => 0,
-        Some(UdxError::ConnectionReset) => 1,
-        Some(UdxError::UnexpectedEof) => 2,
-        Some(UdxError::TimedOut) => 3,
-    }
-}
-
-fn state_number(state: StreamState) -> u64 {
-    match state {
-        StreamState::Open => 0,
-        StreamState::LocalClosed => 1,
-        StreamState::RemoteClosed => 2,
-        StreamState::BothClosed => 3,
-    }
-}
 
 // While entries are left to take, they are the whole queue.
 fn entries(q: Queue) -> u32 {
@@ -41,8 +23,8 @@ pub fn numbers(e: SessionEnd) -> [u64; 22] {
         s.timing.rtt.rttvar.0,
         s.timing.rtt.rto.0,
         s.timing.deadline.0.0,
-        error_number(s.ending.error),
-        state_number(s.ending.state),
+        s.ending.error.map_or(0, |e| e as u64),
+        s.ending.state as u64,
         s.ending.ended as u64,
         entries(s.queue) as u64,
         s.queue.left as u64,

@@ -15,6 +15,7 @@ pub fn read_full<R: Read>(from: &mut R, buf: &mut [u8]) -> io::Result<usize>
     ensures all { IfOk result (λ n. n < length buf.new → IsAtEnd (R.remaining from.new)) }
 {
     let mut done = 0;
+    // A read may put any number of bytes, so the place of the next one is known only after it.
     while done < buf.len() {
         let n = from.read(&mut buf[done..])?;
         if n == 0 {

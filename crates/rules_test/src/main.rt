@@ -14,6 +14,7 @@ use rtt::Nanos;
 use std::io;
 use std::io::Write;
 
+// All that refusal 1 reads. Not a session's end: that has kept datagrams too.
 #[derive(Clone, Copy)]
 struct Records {
     stream: Stream,
@@ -50,7 +51,9 @@ impl Records {
         }
     }
 
-    // Sets a number, a total or, at `index`, a word.
+    // Sets a number, a total or, at `index`, a word. The fields have the numbers that tests/cases/rules.py gives them; names for them would
+    // be met only here. A cast may lose nothing, so what does not fit is dropped first, in
+    // a line as in bench_calls.
     fn set(&mut self, field: u8, index: u8, v: u64) {
         let i = index as usize;
         let x = (v % 4_294_967_296) as u32;

@@ -6,6 +6,7 @@ use session_turn::{EndStores, Ends, SCRATCH};
 use std::io;
 use std::io::Write;
 
+// Like the drill's, with another turn: one function for both would take a closure over what is lent.
 fn run<W: Write>(
     out: &mut W,
     fresh: Ends,
@@ -17,6 +18,7 @@ fn run<W: Write>(
 ) -> io::Result<()> {
     let mut ends = fresh;
     let mut at: usize = 0;
+    // No `for`: only a command's turn says where the next command starts.
     while at < script.len() {
         let t = session_turn::run_one(ends, script, at, zero, one, scratch, line);
         out.write_all(&line[..t.len])?;

@@ -11,6 +11,7 @@ ghost use Rattle.session_text.specs.Put.{Wrote};
 ghost use Rattle.session_text.specs.Text.{line_of};
 ghost use Rattle.session_commands.specs.Acting.{lined_read, acted, has_datagram, short_read};
 ghost use Rattle.session_commands.specs.Acts.{side_of, LaidEnd, Acts, Keeps, KeepsBatch};
+ghost use Rattle.session_commands.specs.Fresh.{FreshStores};
 
 use constants::{HEADER_STORE, INCOMING_STORE, OUTGOING_STORE, TAKE_ROOM};
 use rtt::Nanos;
@@ -34,7 +35,9 @@ pub struct EndStores {
 impl EndStores {
     // As they are before an end is opened over them.
     #[inline(always)]
-    pub fn fresh() -> Self {
+    pub fn fresh() -> Self
+        ensures { FreshStores result }
+    {
         EndStores {
             outgoing: [0; OUTGOING_STORE],
             incoming: [0; INCOMING_STORE],
@@ -44,15 +47,15 @@ impl EndStores {
     }
 }
 
-// An end after a command, and the length of the command's line.
+// An end after a command, and the length of the command's line, which is at the start of the lent buffer. A slice of the line in its place
+// would keep the buffer lent.
 #[derive(Clone, Copy)]
 pub struct Acted {
     pub end: SessionEnd,
     pub len: usize,
 }
 
-fn put_line(c: Called, name: Name, number: u8, line: &mut [u8]) -> Acted
-    requires { 8_400 ≤ length line.old }
+fn put_line(c: Called, name: Name, number: u8, line: &mut [u8; LINE]) -> Acted
     ensures { (result.end ≡ c.end) × Wrote line.old line.new 0 result.len 70
         (line_of name number c.outcome c.count) }
 {
@@ -61,8 +64,13 @@ fn put_line(c: Called, name: Name, number: u8, line: &mut [u8]) -> Acted
 }
 
 // "01 write: end, length (2), fill byte"
-fn write(e: SessionEnd, size: u16, byte: u8, mine: &mut EndStores, scratch: &mut [u8]) -> Called
-    requires { 65_536 ≤ length scratch.old }
+fn write(
+    e: SessionEnd,
+    size: u16,
+    byte: u8,
+    mine: &mut EndStores,
+    scratch: &mut [u8; SCRATCH],
+) -> Called
     ensures calls { Calls (sending.write (replicate size byte)) e
         (stores mine.old.outgoing mine.old.incoming mine.old.headers) result
         (stores mine.new.outgoing mine.new.incoming mine.new.headers) }
@@ -85,7 +93,8 @@ fn keep(c: Called, kept: &mut [u8; KEPT_STORE], buf: &[u8]) -> Called
     }
 }
 
-// Takes into a buffer of `room` bytes, the front of scratch, and keeps the datagrams of the batch.
+// Takes into a buffer of `room` bytes, the front of scratch, and keeps the datagrams of the batch. The stores are lent one by one, so that
+// their types say that a take only reads them, and a caller may lend any.
 pub fn take_and_keep(
     e: SessionEnd,
     room: usize,
@@ -136,10 +145,9 @@ fn read(
     number: u8,
     size: u16,
     mine: &EndStores,
-    scratch: &mut [u8],
-    line: &mut [u8],
+    scratch: &mut [u8; SCRATCH],
+    line: &mut [u8; LINE],
 ) -> Acted
-    requires { (65_536 ≤ length scratch.old) × (8_400 ≤ length line.old) }
     ensures { (result.len ≤ 8_400) ×
         ((kept : _) → size ≤ 4_096 → LaidEnd e
         (stores mine.now.outgoing mine.now.incoming mine.now.headers) → Acts
@@ -165,7 +173,8 @@ fn read(
     Acted { end: c.end, len }
 }
 
-// Runs one command on an end, with which `mine` is lent. `kept` are the bytes of the other end's kept datagrams, `theirs` their record.
+// Runs one command on an end, with which `mine` is lent. `kept` are the bytes of the other end's kept datagrams, `theirs` their record. The
+// one match that runs a command.
 pub fn act(
     e: SessionEnd,
     theirs: Kept,

@@ -1,4 +1,5 @@
 // The calls on an end: those of udx on its records (specs/Calls.antt). Stores go as slices, since drill_broken lends some of wrong lengths.
+// Each call is written out: it lends other parts to be written and has its own contract.
 ghost use Rattle.std.specs.Prelude.{◌≡◌};
 ghost use Rattle.model.specs.Sending as sending;
 ghost use Rattle.model.specs.Receiving as receiving;
@@ -11,7 +12,7 @@ use error::{Outcome, Refusal};
 use rtt::Nanos;
 use udx::Step;
 
-// An end after a call, and what the call returned.
+// An end after a call, and what the call returned: a `Step` without the stream and totals, which the end has.
 #[derive(Clone, Copy)]
 pub struct Called {
     pub end: SessionEnd,

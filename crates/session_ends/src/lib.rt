@@ -1,4 +1,5 @@
-// An end of a session: a stream and what its caller keeps for it. The stores are lent separately.
+// An end of a session: a stream and what its caller keeps for it. An end is taken and returned by value, as the
+// engine's calls take and return a stream; the stores are therefore not in it but lent.
 #![tactic(auto)]
 
 ghost use Rattle.session_ends.specs.Calls.{stores, Fresh};

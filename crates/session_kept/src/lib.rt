@@ -22,7 +22,8 @@ pub const KEPT_STORE: usize = 44_800;
 
 const SLOT: usize = 1_400;
 
-// The datagrams' bytes are not in it but in a store that is lent: a record goes by value.
+// The datagrams' bytes are not in it but in a store that is lent: a record goes by value. There is no heap, so the lengths are an array for
+// the most that are kept, with a count beside it.
 #[derive(Clone, Copy)]
 pub struct Kept {
     // The slot of the oldest.
@@ -67,9 +68,8 @@ fn slot(k: Kept, number: u16) -> usize
 
 // The bytes of a slot's datagram.
 #[tactic(auto, using(crate::proofs::KeptLaws::slot_part), unfolding(crate::specs::Kept::slot_size))]
-fn in_slot(k: Kept, i: usize, kept: &[u8]) -> &[u8]
-    requires i_bound { i < 32 }
-    requires in_bounds { 44_800 ≤ length kept.now }
+fn in_slot(k: Kept, i: usize, kept: &[u8; KEPT_STORE]) -> &[u8]
+    requires { i < 32 }
     ensures { result.now ≡ slot_bytes k kept.now i }
 {
     let at = i * SLOT;
@@ -86,8 +86,8 @@ pub fn datagram(k: Kept, number: u16, kept: &[u8; KEPT_STORE]) -> &[u8]
 }
 
 // Puts a datagram into a slot in place of what it had.
-fn put_in(mut k: Kept, i: usize, datagram: &[u8], kept: &mut [u8]) -> Kept
-    requires { (i < 32) × (44_800 ≤ length kept.old) }
+fn put_in(mut k: Kept, i: usize, datagram: &[u8], kept: &mut [u8; KEPT_STORE]) -> Kept
+    requires { i < 32 }
     ensures { PutInSlot k i datagram.now kept.old result kept.new }
 {
     let n = datagram.len().min(SLOT);
@@ -116,8 +116,7 @@ fn one_more(k: Kept) -> Kept
 
 // Keeps a datagram after the newest; with 32 kept it replaces the oldest.
 #[tactic(auto, using(crate::proofs::KeptLaws::kept_more))]
-fn keep_one(k: Kept, datagram: &[u8], kept: &mut [u8]) -> Kept
-    requires { 44_800 ≤ length kept.old }
+fn keep_one(k: Kept, datagram: &[u8], kept: &mut [u8; KEPT_STORE]) -> Kept
     ensures { kept_of result kept.new ≡ last_kept
         (kept_of k kept.old ++ (fitted datagram.now ∷ [])) }
 {

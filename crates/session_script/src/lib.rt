@@ -7,7 +7,8 @@ ghost use Rattle.session_script.specs.Script.{width_of, u16_at, u32_at, u64_at, 
 
 use rtt::Nanos;
 
-// One command with its operands. The end that it is for, 0 or 1, stays a number: lines print it.
+// One command with its operands. Each has the end that it is for, as in 01's list. The end stays a number as in the script,
+// 0 or 1: lines print that number.
 #[derive(Clone, Copy)]
 pub enum Command {
     Write { end: u8, length: u16, fill: u8 },
@@ -25,7 +26,8 @@ pub struct Parsed {
     pub size: usize,
 }
 
-// How many bytes of operands a command byte has. "Any other command byte ends the run"
+// How many bytes of operands a command byte has. "Any other command byte ends the run": 01 names this form, a match on the command number,
+// each with its operand width.
 #[tactic(auto, unfolding(crate::specs::Script::width_of))]
 pub fn operand_width(command: u8) -> Option<usize>
     ensures { result ≡ width_of command }
@@ -48,7 +50,8 @@ pub fn byte_at(s: &[u8], i: usize) -> u8
     s.get(i).copied().unwrap_or(0)
 }
 
-// The N bytes from a place in a command on.
+// The N bytes from a place in a command on. `array::from_fn` is no plainer: it promises a chain of calls, and that the element at i is the
+// byte at i would take an induction along it, where this loop takes one line of invariant.
 fn bytes_at<const N: usize>(s: &[u8], place: u8) -> [u8; N]
     requires { N ≤ 8 }
     ensures { (i : ℕ) → i < N → get_or result i 0 ≡ get_or s.now (place + i) 0 }
@@ -60,7 +63,8 @@ fn bytes_at<const N: usize>(s: &[u8], place: u8) -> [u8; N]
     bytes
 }
 
-// The two-byte number at a place in a command.
+// The two-byte number at a place in a command. It and the next two are a line each over `bytes_at`: from_le_bytes is a method of each type
+// and of no trait, so one generic function would need a trait of its own.
 pub fn u16_at(s: &[u8], place: u8) -> u16
     ensures { result ≡ u16_at s.now place }
 {

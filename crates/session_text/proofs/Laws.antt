@@ -1,18 +1,19 @@
 -- The laws of `decimal_of` and `hex_of`.
-use Prim.Native.Nat.{ℕ, zero, suc, ◌+◌, ◌*◌, ◌/◌, ◌%◌, ◌^◌, ◌≤◌, ◌<◌}
+use Prim.Native.Nat.{ℕ, zero, suc, ◌+◌, ◌-◌, ◌*◌, ◌/◌, ◌%◌, ◌^◌, ◌≤◌, ◌<◌}
 use mathlib.Core.Path.{◌≡◌, refl, sym, ap, ◌∙◌, subst}
 use mathlib.Core.List.{List, [], ◌∷◌, ◌++◌}
-use native.Mathlib.Numerals.{add-one}
 use native.Mathlib.Omega.{arith}
 use borrow.Author.Tests.{lt-ltb, le-ltb}
-use lib.ListN.{length}
-use lib.ListN.{take, get_or}
-use lib.Seq.{take-length, take-suc, length-take-le}
+use lib.ListN.{length, get_or, take, drop}
+use Rattle.std.specs.Prelude.{slice_index, Result, Ok, OnOk}
+use Rattle.std.proofs.Common.{Fits, w8}
 use Rattle.std.specs.Fmt.{decimal}
 use Rattle.std.proofs.lemmas.Fmt.{decimal_by_steps, length-decimal-le}
+use Rattle.std.proofs.lemmas.List.FromFn.{get_or-map-range_with_len}
+use Rattle.hex.specs.Hex.{IsBytes, lower_digits, encode_with, encode_lower}
 use native.Mathlib.Nat.{pow-suc}
 use Rattle.session_text.specs.Put.{put, Wrote}
-use Rattle.session_text.proofs.PutLaws.{put_put, wrote}
+use Rattle.session_text.proofs.PutLaws.{put_part, wrote}
 use Rattle.session_text.specs.Text.{decimal_to, decimal_of, hex_of, digit}
 
 -- enough digits: all of them
@@ -37,23 +38,25 @@ digits_put {d} {d'} {at} {r} n t h e p =
     (wrote p (rw e (length-decimal-le 20 n (omega arith) (omega arith) h)))
 
 -- the bytes in hexadecimal
-pub hex_append : (a b : List ℕ) → hex_of (a ++ b) ≡ hex_of a ++ hex_of b
-hex_append [] b = refl
-hex_append (x ∷ a) b = ap (λ (l : List ℕ). digit (x / 16) ∷ digit (x % 16) ∷ l) (hex_append a b)
-
 pub hex_length : (a : List ℕ) → length (hex_of a) ≡ 2 * length a
 hex_length [] = refl
 hex_length (x ∷ a) = omega (arith, hex_length a)
 
--- no more bytes
-pub hex_all : (i : ℕ) (bytes : List ℕ) → i ≡ length bytes → hex_of (take i bytes) ≡ hex_of bytes
-hex_all i bytes e = rw (e, take-length) refl
+-- a digit of the crate hex
+same_digit : (d : ℕ) → d < 16 → slice_index lower_digits d ≡ digit d
+same_digit d h = get_or-map-range_with_len digit 0 16 d d 0 h (omega arith)
 
--- one more byte
-pub hex_more : (d : List ℕ) (at : ℕ) (bytes : List ℕ) (i to : ℕ) (d' : List ℕ) → i < length bytes → at + 2 * length bytes ≤ length d
-    → to ≡ at + 2 * i → d' ≡ put d at (hex_of (take i bytes))
-    → put d' to (digit (get_or bytes i 0 / 16) ∷ digit (get_or bytes i 0 % 16) ∷ []) ≡ put d at (hex_of (take (i + 1) bytes))
-hex_more d at bytes i to d' h room et ed =
-    let t = hex_of (take i bytes) in
-    let e : to ≡ at + length t = omega (arith, hex_length (take i bytes), length-take-le i bytes (omega arith)) in
-    rw (add-one, take-suc bytes i 0 h, hex_append, e, ed) (put_put d at t _ (omega arith))
+-- the text of the crate hex
+same_hex : (bytes : List ℕ) → IsBytes bytes → encode_lower bytes ≡ hex_of bytes
+unfolding encode_with
+same_hex [] h = refl
+same_hex (b ∷ bytes) h =
+    let byte : b < 256 = h 0 in
+    rw (same_digit (b / 16) (omega arith), same_digit (b % 16) (omega arith), same_hex bytes (λ i. h (suc i))) refl
+
+-- what the crate hex wrote into a part of the buffer
+pub hex_put : {E : Type 0} (d t bytes : List ℕ) (at : ℕ) (r : Result Unit E) (u : Unit) → ((i : ℕ) → Fits w8 (get_or bytes i 0)) → r ≡ Ok u → OnOk r (t ≡ encode_lower bytes)
+    → (at + 2 * length bytes ≡ at + length (hex_of bytes)) × (take at d ++ (t ++ drop (at + 2 * length bytes - at) (drop at d)) ≡ put d at (hex_of bytes))
+hex_put d t bytes at r u fits ok e =
+    let long = hex_length bytes in
+    (omega arith, rw ((rw ok at e) ∙ same_hex bytes (λ i. (fits i).fits)) (put_part d at _ _ long))

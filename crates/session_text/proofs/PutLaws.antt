@@ -1,5 +1,5 @@
 -- The laws of `put`: how several writes into one buffer combine.
-use Prim.Native.Nat.{ℕ, ◌+◌, ◌≤◌}
+use Prim.Native.Nat.{ℕ, ◌+◌, ◌-◌, ◌≤◌}
 use mathlib.Core.Path.{◌≡◌, sym, ap, ◌∙◌}
 use mathlib.Core.List.{List, ◌++◌, append_assoc}
 use native.Mathlib.Nat.{add_assoc}
@@ -20,6 +20,12 @@ put_put d at a b h =
     let rest : drop (k + length b) (p ++ drop k d) ≡ drop (k + length b) d =
     ap (λ (m : ℕ). drop (m + length b) (p ++ drop k d)) (sym e) ∙ drop-append-add p (drop k d) (length b) ∙ drop-drop (length b) k d in
     rw (take_at p (drop k d) k e, rest, append_assoc (take at d) a b, length-append, add_assoc)
+
+-- a part of the buffer, written whole
+pub put_part : (d : List ℕ) (at n : ℕ) (t : List ℕ) → length t ≡ n → take at d ++ (t ++ drop (at + n - at) (drop at d)) ≡ put d at t
+put_part d at n t e =
+    let long : at + n - at ≡ length t = omega (arith, e) in
+    rw (long, drop-drop (length t) at d) (sym (append_assoc (take at d) t (drop (at + length t) d)))
 
 -- two writes, the second where the first ended
 pub then : {d d₁ d₂ : List ℕ} {at k r m n : ℕ} {a b : List ℕ} → at ≤ length d → Wrote d d₁ at k m a → Wrote d₁ d₂ k r n b → Wrote d d₂ at r (m + n) (a ++ b)

@@ -1,4 +1,5 @@
-// The lines of a session, put piece by piece into a buffer. Each function puts its piece at a place and returns the place past it.
+// The lines of a session, put piece by piece into a buffer. Each function puts its piece at a place and returns the place past it: there is
+// no heap, and each contract says exactly which bytes are written where.
 #![tactic(auto)]
 
 mod lines;

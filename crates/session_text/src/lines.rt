@@ -1,4 +1,5 @@
-// Whole lines of a session, put at the start of a buffer.
+// Whole lines of a session, put at the start of a buffer. What a call answered comes as its outcome and its count: a session and a drill have
+// the two in structs of their own. An end is a number here as in the script, 0 or 1: an enum would be made of it and turned back into it.
 ghost use Rattle.std.specs.Prelude.{◌≡◌, ◌+◌, ◌*◌, ◌<◌, ◌≤◌, length};
 ghost use Rattle.session_text.specs.Put.{put, Wrote, Counts};
 ghost use Rattle.session_text.specs.Text.{name_of, line_of, bytes_line_of, script_line_of};
@@ -6,7 +7,8 @@ ghost use Rattle.session_text.specs.Text.{name_of, line_of, bytes_line_of, scrip
 use crate::pieces::{put_answer, put_bytes, put_decimal, put_end, put_space, put_word};
 use error::{Outcome, Refusal};
 
-// Bytes in a line's buffer: the longest line is that of a 4,096-byte read.
+// Bytes in a line's buffer: the longest line is that of a 4,096-byte read. Whoever may put any line is lent an array of this size: its
+// length is in its type, so no caller has to show that there is room.
 pub const LINE: usize = 8_400;
 
 // The name of a command, or the word before the offset of a script that ends early.
@@ -38,6 +40,7 @@ impl Name {
     }
 }
 
+// Like drill_lines' `put_name`, for this crate's enum; a trait for both would be longer.
 fn put_name(out: &mut [u8], name: Name) -> usize
     requires { 6 ≤ length out.old }
     ensures { Wrote out.old out.new 0 result 6 (name_of name) }

@@ -2,7 +2,6 @@
 ghost use Rattle.std.specs.Prelude.{◌≡◌, ◌+◌, ◌*◌, ◌<◌, ◌≤◌, length};
 ghost use Rattle.session_text.specs.Put.{put, Wrote};
 ghost use Rattle.session_text.specs.Text.{decimal_of, hex_of, bytes_of, outcome_of, space_of, end_of, answer_of};
-ghost use Rattle.session_text.specs.Text.{digit as Text·digit};
 
 use error::{Outcome, Refusal};
 use itoa::Buffer;
@@ -26,25 +25,16 @@ pub fn put_decimal(out: &mut [u8], at: usize, n: u64) -> usize
     put_word(out, at, Buffer::new().format(n).as_bytes())
 }
 
-// A hexadecimal digit, in lower case.
-fn digit(d: u8) -> u8
-    requires { d < 16 }
-    ensures { result ≡ Text·digit d }
-{
-    if d < 10 { 48 + d } else { 87 + d }
-}
-
-#[tactic(auto, using(crate::proofs::Laws::hex_length, crate::proofs::Laws::hex_more, crate::proofs::Laws::hex_all))]
+// Bytes in hexadecimal. `encode_to_slice` refuses only a part that is not two bytes for each of `bytes`.
+#[tactic(auto, using(crate::proofs::Laws::hex_put))]
 fn put_hex(out: &mut [u8], at: usize, bytes: &[u8]) -> usize
     requires { at + 2 * length bytes.now ≤ length out.old }
     ensures { (result ≡ at + length (hex_of bytes.now)) ×
         (out.new ≡ put out.old at (hex_of bytes.now)) }
 {
-    let mut to = at;
-    for &b in bytes {
-        to = put_word(out, to, &[digit(b / 16), digit(b % 16)]);
-    }
-    to
+    let end = at + 2 * bytes.len();
+    hex::encode_to_slice(bytes, &mut out[at..end]).unwrap();
+    end
 }
 
 // Bytes in hexadecimal, or `-` if there are none.
@@ -74,6 +64,7 @@ pub fn put_outcome(out: &mut [u8], at: usize, outcome: Result<Outcome, Refusal>)
     }
 }
 
+// The space before the next word, and the end of a line: a function each, so that a line reads as 01's does.
 pub fn put_space(out: &mut [u8], at: usize) -> usize
     requires { at < length out.old }
     ensures { Wrote out.old out.new at result 1 space_of }

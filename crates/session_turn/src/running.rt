@@ -20,7 +20,8 @@ pub struct Ends {
     pub one: SessionEnd,
 }
 
-// The ends after a command, where the next one starts (the script's end if the run ends), and the length of the command's line.
+// The ends after a command, where the next one starts, and the length of the command's line (as in `Acted`). If the run ends, the next one
+// starts at the script's end, where a loop over the script stops anyway.
 #[derive(Clone, Copy)]
 pub struct Turn {
     pub ends: Ends,
@@ -28,7 +29,8 @@ pub struct Turn {
     pub len: usize,
 }
 
-// Whether the command is for this end and can run there, as a hand of "a datagram not kept" cannot.
+// Whether the command is for this end and can run there, as a hand of "a datagram not kept" cannot. No wildcard: a new command must be
+// placed here.
 fn is_for(number: u8, command: Command, theirs: Kept) -> bool
     ensures { (store : _) → result ≡ is_for number command (kept_of theirs store) }
 {
@@ -47,7 +49,7 @@ fn is_for(number: u8, command: Command, theirs: Kept) -> bool
 }
 
 // Ends the run at the command at `at`.
-pub fn stop(ends: Ends, size: usize, at: usize, line: &mut [u8; LINE]) -> Turn
+fn stop(ends: Ends, size: usize, at: usize, line: &mut [u8; LINE]) -> Turn
     ensures { (result.ends ≡ ends) ×
         ((result.next ≡ size) × Wrote line.old line.new 0 result.len 28 (script_line_of at)) }
 {
@@ -59,9 +61,10 @@ pub fn stop(ends: Ends, size: usize, at: usize, line: &mut [u8; LINE]) -> Turn
     }
 }
 
-// Runs the command at `at`. Past the script's end nothing happens and the line is empty.
+// Runs the command at `at`. Past the script's end nothing happens and the line is empty. What is lent stays apart, as `RunOne`
+// (proofs/Contracts.antt) and what is derived from it take it one by one.
 pub fn run_one(
-    ends: Ends,
+    mut ends: Ends,
     script: &[u8],
     at: usize,
     zero: &mut EndStores,
@@ -97,6 +100,7 @@ pub fn run_one(
         return stop(ends, size, at, line);
     };
     let next = at + p.size;
+    // One block for each end: a shared one would have to choose which end is lent to write, which to read, and where the answer goes.
     if is_for(0, p.command, ends.one.kept) {
         let a = act(
             ends.zero,
@@ -107,11 +111,9 @@ pub fn run_one(
             scratch,
             line,
         );
+        ends.zero = a.end;
         return Turn {
-            ends: Ends {
-                zero: a.end,
-                ..ends
-            },
+            ends,
             next,
             len: a.len,
         };
@@ -126,8 +128,9 @@ pub fn run_one(
             scratch,
             line,
         );
+        ends.one = a.end;
         return Turn {
-            ends: Ends { one: a.end, ..ends },
+            ends,
             next,
             len: a.len,
         };
