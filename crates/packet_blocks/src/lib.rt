@@ -3,8 +3,8 @@
 //
 // There are two methods `next`. The one of Iterator takes `&mut self`, moves the reader past the block and returns the block alone: callers
 // loop over a reader (deliver_acks). The reader's own takes `self` by value and returns the block with the place after it; `reader.next()`
-// means this one. No caller needs it, nor `moved` and `read_from`: they are there because the theorems on the block reader (crates promise
-// and promise_sentences) speak of one read at any place.
+// means this one. The iterator reads by `read_from`, so a loop runs the functions of which the theorems on the block reader (crates promise
+// and promise_sentences) speak.
 #![tactic(auto)]
 
 ghost use Rattle.std.specs.Prelude.{◌≡◌};
@@ -70,7 +70,7 @@ impl<'a> Iterator for BlockReader<'a> {
     ghost remaining = { item_count blocks_left };
 
     fn next(&mut self) -> Option<Block> {
-        let next = next_at(self.payload, self.at);
+        let next = read_from(self.payload, self.at);
         self.at = next.at;
         next.block
     }

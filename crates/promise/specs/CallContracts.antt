@@ -1,9 +1,9 @@
 -- A call on the records (`Did`, in Runs.antt) is the contract of the exported function, word for word: with the numbers, words, stores and
 -- buffers before and after the call, its `ensures` is `Did`, and it requires nothing. So an exported function that ensures less or requires
 -- more fails here. Covered are `write`, `deliver`, `drive`, `take`, `read` and `close`, and, each with its own definition, `look`, `open`,
--- header coding and, of the block reader, `next_at`, `read_from`, `new`, `moved` and the `next` that takes the reader by value. Not covered
--- is its `next` as an iterator. `x` are the parameters, `y` their values at the end, `r` is the result. Statements only: the proof is in
--- proofs/Contracts.antt.
+-- header coding and, of the block reader, `next_at`, `read_from`, `new`, `moved` and the `next` that takes the reader by value. Its `next`
+-- as an iterator reads by `read_from`, and what `deliver` ensures covers it. `x` are the parameters, `y` their values at the end, `r` is the
+-- result. Statements only: the proof is in proofs/Contracts.antt.
 use Rattle.std.specs.Prelude.{◌≡◌, []}
 use seplogic.Ra.Ura.{Ura}
 use base.Logic.{SProp}
