@@ -2,9 +2,9 @@
 ghost use Rattle.std.specs.Prelude.{◌≡◌};
 ghost use Rattle.rtt.specs.Window.{grown, halved};
 
-use constants::{SSTHRESH, UDX_MTU};
+use constants::{CWND_MAX, SSTHRESH, UDX_MTU};
 
-// The window after a delivery with a new ack. It stops at 4,294,967,295, the largest u32.
+// The window after a delivery with a new ack. It stops at CWND_MAX, the largest u32.
 #[tactic(auto, unfolding(crate::specs::Window::grown))]
 pub fn grow(cwnd: u32) -> u32
     ensures { result ≡ grown cwnd }
@@ -14,7 +14,7 @@ pub fn grow(cwnd: u32) -> u32
     } else {
         (UDX_MTU * UDX_MTU / cwnd).max(1)
     };
-    cwnd.saturating_add(step)
+    cwnd.saturating_add(step).min(CWND_MAX)
 }
 
 // The window after a due timeout.
