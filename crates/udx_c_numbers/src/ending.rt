@@ -78,6 +78,17 @@ impl TryFrom<FlatEnding> for Ending {
     }
 }
 
+// The ending that any bytes represent, an invalid one like the last valid one.
+pub fn ending_of(e: FlatEnding) -> Ending
+    ensures { result ≡ ending_of e }
+{
+    Ending {
+        error: error_of(e.error).unwrap_or(Some(UdxError::TimedOut)),
+        state: state_of(e.state).unwrap_or(StreamState::BothClosed),
+        ended: flag_of(e.ended).unwrap_or(false),
+    }
+}
+
 impl From<Ending> for FlatEnding {
     ghost from_gives = { λ e r. r ≡ flat_ending e };
 

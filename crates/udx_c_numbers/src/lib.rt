@@ -8,6 +8,7 @@ mod structs;
 
 pub use ending::{outcome_byte, refusal_byte};
 pub use flatten::broken_step;
+pub use streams::stream_of;
 pub use structs::{
     FlatClocks, FlatEnding, FlatIds, FlatQueue, FlatReceiver, FlatSender, FlatStep, FlatStream,
     FlatTiming, FlatTotals,

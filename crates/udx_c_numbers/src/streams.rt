@@ -3,6 +3,7 @@ ghost use Rattle.std.specs.Prelude.{◌≡◌};
 ghost use Rattle.udx_c_numbers.specs.Bytes.{broken_if, is_strange};
 ghost use Rattle.udx_c_numbers.specs.Flat.{ids_of, sender_of, receiver_of, queue_of, timing_of, clocks_of, stream_of, totals_of};
 
+use crate::ending::ending_of;
 use crate::structs::{
     FlatClocks, FlatIds, FlatQueue, FlatReceiver, FlatSender, FlatStream, FlatTiming, FlatTotals,
 };
@@ -94,6 +95,22 @@ impl From<FlatClocks> for Clocks {
     }
 }
 
+// The stream that any numbers represent, an invalid byte of its ending like the last valid one.
+#[tactic(auto, unfolding(crate::specs::Flat::stream_of))]
+pub fn stream_of(f: FlatStream) -> Stream
+    ensures { result ≡ stream_of f }
+{
+    Stream {
+        ids: f.ids.into(),
+        sender: f.sender.into(),
+        receiver: f.receiver.into(),
+        queue: f.queue.into(),
+        timing: f.timing.into(),
+        clocks: f.clocks.into(),
+        ending: ending_of(f.ending),
+    }
+}
+
 impl TryFrom<FlatStream> for Stream {
     type Error = Refusal;
 
@@ -102,13 +119,8 @@ impl TryFrom<FlatStream> for Stream {
     #[tactic(auto, unfolding(crate::specs::Flat::stream_of))]
     fn try_from(f: FlatStream) -> Result<Stream, Refusal> {
         Ok(Stream {
-            ids: f.ids.into(),
-            sender: f.sender.into(),
-            receiver: f.receiver.into(),
-            queue: f.queue.into(),
-            timing: f.timing.into(),
-            clocks: f.clocks.into(),
             ending: f.ending.try_into()?,
+            ..stream_of(f)
         })
     }
 }
