@@ -49,7 +49,7 @@ pub fn close_remote(s: StreamState) -> StreamState
 }
 
 // terminate, without its state packet: the error replaces any earlier one.
-fn terminated(x: Ending, why: UdxError) -> Ending
+pub fn terminated(x: Ending, why: UdxError) -> Ending
     ensures { seen_ending result ≡ failed why (seen_ending x) }
 {
     Ending {

@@ -7,7 +7,14 @@ use std::io::Write;
 
 // Runs the script on two fresh ends. Like the session's, with another turn: one function for both would take a closure over what is lent.
 fn run<W: Write>(out: &mut W, script: &[u8], lent: &mut DrillLent) -> io::Result<()> {
-    let mut ends = session_turn::open_ends(&lent.zero, &lent.one);
+    let mut ends = session_turn::open_ends(
+        &lent.zero.outgoing,
+        &lent.zero.incoming,
+        &lent.zero.headers,
+        &lent.one.outgoing,
+        &lent.one.incoming,
+        &lent.one.headers,
+    );
     let mut at: usize = 0;
     // No `for`: only a command's turn says where the next command starts.
     while at < script.len() {

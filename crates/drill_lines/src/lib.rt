@@ -167,9 +167,9 @@ pub fn put_decoded(out: &mut [u8; LINE], h: Header) -> usize
 }
 
 // `decode 7`
-pub fn put_not_decoded(out: &mut [u8; LINE], why: Refusal) -> usize
+pub fn put_not_decoded(out: &mut [u8; LINE], outcome: Result<Outcome, Refusal>) -> usize
     ensures { result ≤ 8_400 }
 {
-    let a = put_decode_head(out, Err(why));
+    let a = put_decode_head(out, outcome);
     session_text::put_end(out, a)
 }

@@ -66,7 +66,14 @@ pub fn compare(
     answer: &[u8],
     lent: &mut DrillLent,
 ) -> Option<Difference> {
-    let mut ends = session_turn::open_ends(&lent.zero, &lent.one);
+    let mut ends = session_turn::open_ends(
+        &lent.zero.outgoing,
+        &lent.zero.incoming,
+        &lent.zero.headers,
+        &lent.one.outgoing,
+        &lent.one.incoming,
+        &lent.one.headers,
+    );
     let mut from: usize = 0;
     let mut at: usize = 0;
     let mut lines: u64 = 0;

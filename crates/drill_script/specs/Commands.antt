@@ -69,6 +69,14 @@ call_of n =
     (cond (eqb n 7) (Some call.Look)
     None)))))))
 
+-- the call with any number: one that no call has looks
+abbrev or_look : Option DrillCall → DrillCall
+or_look None = call.Look
+or_look (Some c) = c
+
+unfoldable pub numbered : ℕ → DrillCall
+numbered n = or_look (call_of n)
+
 -- "type, offset, stream id (4), window (4), seq (4), ack (4)", after command byte and length
 abbrev pub header_in : List ℕ → Header
 header_in s =

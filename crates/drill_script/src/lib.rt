@@ -4,7 +4,7 @@
 ghost use Rattle.std.specs.Prelude.{◌≡◌, ◌<◌, ◌≤◌, length, IfSome};
 ghost use Rattle.std.specs.Result.{result_ok};
 ghost use Rattle.drill_script.specs.Commands.{end_of, size_of, is_in_range};
-ghost use Rattle.drill_script.specs.Commands.{call_of, header_in, spoil_in, command_of, parsed_of};
+ghost use Rattle.drill_script.specs.Commands.{call_of, numbered, header_in, spoil_in, command_of, parsed_of};
 
 use packet::Header;
 use rtt::Nanos;
@@ -85,6 +85,19 @@ impl TryFrom<u8> for DrillCall {
             6 => Ok(DrillCall::Close),
             7 => Ok(DrillCall::Look),
             _ => Err(UnknownCall),
+        }
+    }
+}
+
+impl DrillCall {
+    // The call with any number: one that no call has looks, as 7 does.
+    #[tactic(auto, unfolding(crate::specs::Commands::numbered))]
+    pub fn numbered(number: u8) -> DrillCall
+        ensures { result ≡ numbered number }
+    {
+        match DrillCall::try_from(number) {
+            Ok(call) => call,
+            Err(_) => DrillCall::Look,
         }
     }
 }

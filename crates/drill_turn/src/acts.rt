@@ -184,7 +184,7 @@ fn decode(bytes: &[u8], line: &mut [u8; LINE]) -> usize
 {
     match Header::from_bytes(bytes) {
         Ok(h) => drill_lines::put_decoded(line, h),
-        Err(why) => drill_lines::put_not_decoded(line, why),
+        Err(why) => drill_lines::put_not_decoded(line, Err(why)),
     }
 }
 

@@ -6,5 +6,6 @@ mod lent;
 mod numbers;
 mod running;
 
+pub use drill_broken::{SPARE_HEADERS, SPARE_INCOMING, SPARE_OUTGOING};
 pub use lent::DrillLent;
 pub use running::run_one;

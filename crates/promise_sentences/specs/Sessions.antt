@@ -41,7 +41,7 @@ module _ {M : Type 1} {𝓤 : Ura M} (𝓛 : Logic 𝓤) (mem : Memory → SProp
   -- "ends 0 (id 1) and 1 (id 2), opened at clock 0 with ceiling 10": the two that the program runs, over its own stores
   abbrev pub Opening : Type 2
   Opening =
-      (κs : Lfts 2) (x : Args open-ends.signature κs) (r : Res open-ends.signature κs) (y : AtExit open-ends.ended κs)
+      (κs : Lfts 6) (x : Args open-ends.signature κs) (r : Res open-ends.signature κs) (y : AtExit open-ends.ended κs)
       → let c = open-ends.clauses 𝓛 mem run κs x in
       Promises 𝓤 (c.requires tt) (c.ensures tt r y)
       ((numbers_on r.zero.stream r.zero.totals ≡ fresh_numbers 1 2 10 0) × (numbers_on r.one.stream r.one.totals ≡ fresh_numbers 2 1 10 0))

@@ -35,7 +35,14 @@ fn main(rt: HostRuntime) -> io::Result<()> {
     let mut one = EndStores::fresh();
     let mut scratch = [0u8; SCRATCH];
     let mut line = [0u8; LINE];
-    let ends = session_turn::open_ends(&zero, &one);
+    let ends = session_turn::open_ends(
+        &zero.outgoing,
+        &zero.incoming,
+        &zero.headers,
+        &one.outgoing,
+        &one.incoming,
+        &one.headers,
+    );
     run(
         &mut rt.stdout(),
         ends,

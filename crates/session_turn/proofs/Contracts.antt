@@ -39,11 +39,9 @@ module _ {M : Type 1} {𝓤 : Ura M} (𝓛 : Logic 𝓤) (mem : Memory → SProp
   -- session_turn/src/opening.rt; `k₀` and `k₁` are whatever is lent for kept datagrams
   abbrev pub OpensEnds : Type 2
   OpensEnds =
-      (κs : Lfts 2) (x : Args open-ends.signature κs) (r : Res open-ends.signature κs) (y : AtExit open-ends.ended κs) (k₀ k₁ : Bytes)
-      → let (zero, (one, _)) = x in
-      let z = zero.now in
-      let o = one.now in
-      let d = lends z.outgoing z.incoming z.headers k₀ o.outgoing o.incoming o.headers k₁ in
+      (κs : Lfts 6) (x : Args open-ends.signature κs) (r : Res open-ends.signature κs) (y : AtExit open-ends.ended κs) (k₀ k₁ : Bytes)
+      → let (o₀, (i₀, (h₀, (o₁, (i₁, (h₁, _)))))) = x in
+      let d = lends o₀.now i₀.now h₀.now k₀ o₁.now i₁.now h₁.now k₁ in
       let c = open-ends.clauses 𝓛 mem run κs x in
       (c.requires tt ≡ ⊤ₛ) × (c.ensures tt r y ≡ ⌜ OpenedEnds r d.zero d.one ⌝)
 

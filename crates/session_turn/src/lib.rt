@@ -6,5 +6,5 @@ mod opening;
 mod running;
 
 pub use opening::open_ends;
-pub use running::{Ends, Turn, run_one};
+pub use running::{Ends, Turn, run_one, stop};
 pub use session_commands::{Acted, EndStores, SCRATCH, take_and_keep};

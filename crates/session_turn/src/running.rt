@@ -48,8 +48,9 @@ fn is_for(number: u8, command: Command, theirs: Kept) -> bool
     }
 }
 
-// Ends the run at the command at `at`.
-fn stop(ends: Ends, size: usize, at: usize, line: &mut [u8; LINE]) -> Turn
+// Ends the run at the command at `at`. Inlined: else `run_one` zeroes its answer, 4,080 bytes, before each command.
+#[inline(always)]
+pub fn stop(ends: Ends, size: usize, at: usize, line: &mut [u8; LINE]) -> Turn
     ensures { (result.ends ≡ ends) ×
         ((result.next ≡ size) × Wrote line.old line.new 0 result.len 28 (script_line_of at)) }
 {

@@ -28,7 +28,7 @@ fn past_incoming(h: Header, cursor: u32) -> bool
 
 // Refusals 8 to 13, in this order. A delivery may queue two state packets, so it needs two free places.
 #[tactic(auto, unfolding(crate::specs::Verdicts::header_verdict))]
-fn header_verdict(s: Stream, h: Header, payload: usize) -> Result<(), Refusal>
+pub fn header_verdict(s: Stream, h: Header, payload: usize) -> Result<(), Refusal>
     ensures { result ≡ header_verdict s h payload }
 {
     if h.stream_id != s.ids.local {

@@ -10,7 +10,7 @@ mod take;
 mod write;
 
 pub use close::close_verdict;
-pub use deliver::delivery_verdict;
+pub use deliver::{delivery_verdict, header_verdict};
 pub use early::early_verdict;
 pub use take::take_verdict;
 pub use write::write_verdict;
