@@ -58,15 +58,14 @@ pub fn udx_layout_stream(s: FlatStream) -> Numbers
 pub fn udx_layout_totals(s: FlatStream, t: FlatTotals) -> Numbers
     ensures { result.n ≡ totals_fields t ++ replicate 18 0 }
 {
+    // One by one: with a copy of a slice the archive would need memcpy of the C library.
     let mut n = [0; 24];
-    n[..6].copy_from_slice(&[
-        t.tx_packets,
-        t.tx_bytes,
-        t.rx_packets,
-        t.rx_bytes,
-        t.inflight_packets,
-        t.inflight_bytes,
-    ]);
+    n[0] = t.tx_packets;
+    n[1] = t.tx_bytes;
+    n[2] = t.rx_packets;
+    n[3] = t.rx_bytes;
+    n[4] = t.inflight_packets;
+    n[5] = t.inflight_bytes;
     Numbers { n }
 }
 
