@@ -136,7 +136,8 @@ fn deliver(
     w
 }
 
-// Reads packets of `size` bytes one at a time, 33 at most, until a read puts nothing.
+// Reads packets of `size` bytes one at a time, 33 at most, until a read puts nothing. With size 0 the first one puts nothing, but it passes
+// over packets without payload.
 fn read(
     r: Step,
     sent: &[u64; SENT_WORDS],
@@ -149,7 +150,17 @@ fn read(
     size: usize,
 ) -> Step {
     if size == 0 {
-        return unchanged(r);
+        return udx::read::read(
+            r.stream,
+            r.totals,
+            sent,
+            held,
+            queue,
+            outgoing,
+            incoming,
+            headers,
+            &mut buf[..0],
+        );
     }
     let mut w = r;
     let mut count: usize = 0;
