@@ -63,7 +63,7 @@ module _ {s : Stream} {clock : ℕ} {sent : List ℕ} {lost : Lost} {sent' : Lis
 
 -- the whole check
 
-no_more : (q : Queue) (queue : List ℕ) (headers : Bytes) → length headers ≡ 1_280 → Pushed q queue q queue headers
+pub no_more : (q : Queue) (queue : List ℕ) (headers : Bytes) → length headers ≡ 1_280 → Pushed q queue q queue headers
 no_more q queue headers whole = record { left = refl; count = omega arith; states = omega arith; formed = λ f. f; whole = whole }
 
 module _ (s : Stream) (t : Totals) (clock : ℕ) (sent queue : List ℕ) (headers : Bytes) where

@@ -15,7 +15,7 @@ use Rattle.packet_blocks.specs.Reader.{read_at, ReadsOn, blocks_left}
 
 -- from the block at a place to what is read there
 
-reads_range : (payload : List ℕ) (at : ℕ) {b : Block} → next_block (blocks_from payload at) ≡ Some b
+pub reads_range : (payload : List ℕ) (at : ℕ) {b : Block} → next_block (blocks_from payload at) ≡ Some b
     → ◌≡◌ {A = Next} record { block = Some b; at = at + 8 } (read_at payload at)
 reads_range payload at {b} is = simp (range_first payload at b.start b.end is)
 
@@ -29,13 +29,13 @@ module _ (payload : List ℕ) (at : ℕ) {n : Next} (read : n ≡ read_at payloa
   moves is = ap (λ (m : Next). m.at) (reads_range payload at (stands ∙ is) ∙ sym read)
 
   -- after a block come the blocks from the place after it
-  read_first : {b : Block} → n.block ≡ Some b
+  pub read_first : {b : Block} → n.block ≡ Some b
       → blocks_from payload at ≡ record { start = b.start; end = b.end } ∷ blocks_from payload n.at
   read_first {b} is =
       range_first payload at b.start b.end (stands ∙ is)
       ∙ ap (λ (k : ℕ). record { start = b.start; end = b.end } ∷ blocks_from payload k) (moves is)
 
-  read_none : n.block ≡ None → blocks_from payload at ≡ []
+  pub read_none : n.block ≡ None → blocks_from payload at ≡ []
   read_none is = end_none payload at (stands ∙ is)
 
 -- one step of a reader: the first of the blocks that it has left, or none is left

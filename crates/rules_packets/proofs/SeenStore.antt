@@ -25,7 +25,7 @@ use Rattle.rules_packets.specs.Packets.{every_from, sum_from}
 use Rattle.records.proofs.Table.{table_length, table_get}
 
 -- past its end a table has nothing
-table_past : {A : Type 0} (k : ℕ) (f : ℕ → A) (i : ℕ) (d : A) → k ≤ i → get_or (table k f) i d ≡ d
+pub table_past : {A : Type 0} (k : ℕ) (f : ℕ → A) (i : ℕ) (d : A) → k ≤ i → get_or (table k f) i d ≡ d
 table_past k f i d h = get_or-eq_default (table k f) d (let l = table_length k f in omega arith)
 
 -- over numbers alone

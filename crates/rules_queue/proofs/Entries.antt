@@ -36,7 +36,7 @@ unfolding entry_of
 packet_is w x e = grind arith
 
 -- the test of a stored packet's entry as the code computes it
-plain_by : (acked seq : ℕ) (sent words : List ℕ) (i : ℕ) (x : QueuedPacket) (t same : Bool) → entry_of (get_or words i 0) ≡ Packet x
+pub plain_by : (acked seq : ℕ) (sent words : List ℕ) (i : ℕ) (x : QueuedPacket) (t same : Bool) → entry_of (get_or words i 0) ≡ Packet x
     → same ≡ same_packet (sent_in sent (high (get_or words i 0) % 32)) (get_or words i 0)
     → t ≡ (leb acked x.number && (ltb x.number seq && (same && sized x.length))) → t ≡ plain_ok acked seq sent x
 plain_by acked seq sent words i x t same is same_is t-is = let p = packet_is (get_or words i 0) x is in rw (t-is, same_is, ← p.0, ← p.1)

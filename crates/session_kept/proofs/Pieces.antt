@@ -49,18 +49,18 @@ whole_next (b ∷ bytes) h =
     ap₂ {C = List Bytes} (λ (u v : Bytes). u ∷ whole v) (sym (take_all (length (b ∷ bytes)) (b ∷ bytes) (omega arith))) (sym (drop-length (b ∷ bytes)))
 
 -- no segment size: all that is left
-next_whole : (left : ℕ) → 0 < left → NextPiece none left left
+pub next_whole : (left : ℕ) → 0 < left → NextPiece none left left
 next_whole left h = record { some_bytes = h; within = omega arith; next = next }
   where
     next : (bytes : Bytes) → length bytes ≡ left → datagrams_of none bytes ≡ take left bytes ∷ datagrams_of none (drop left bytes)
     next bytes e = rw (← e) (whole_next bytes (omega arith))
 
 -- a segment size that fits in what is left: that many bytes
-next_cut : (segment left : ℕ) → 0 < segment → segment ≤ left → NextPiece (some segment) left segment
+pub next_cut : (segment left : ℕ) → 0 < segment → segment ≤ left → NextPiece (some segment) left segment
 next_cut segment left p l = record { some_bytes = p; within = l; next = λ bytes e. cut_next segment bytes p (omega arith) }
 
 -- the last piece, no longer than the segment size
-next_last : (segment left : ℕ) → 0 < segment → left ≤ segment → 0 < left → NextPiece (some segment) left left
+pub next_last : (segment left : ℕ) → 0 < segment → left ≤ segment → 0 < left → NextPiece (some segment) left left
 next_last segment left p l h = record { some_bytes = h; within = omega arith; next = next }
   where
     next : (bytes : Bytes) → length bytes ≡ left → datagrams_of (some segment) bytes ≡ take left bytes ∷ datagrams_of (some segment) (drop left bytes)

@@ -35,7 +35,7 @@ same_from words (suc m) l i = cond (eqb (size_at words i) l) (suc (same_from wor
 
 -- one word
 
-same_next : (words : List ℕ) (m l i : ℕ) → 0 < m → size_at words i ≡ l → same_from words m l i ≡ suc (same_from words (m - 1) l (i + 1))
+pub same_next : (words : List ℕ) (m l i : ℕ) → 0 < m → size_at words i ≡ l → same_from words m l i ≡ suc (same_from words (m - 1) l (i + 1))
 unfolding same_from
 same_next words zero l i h e = absurd (omega arith)
 same_next words (suc m) l i h e =
@@ -43,7 +43,7 @@ same_next words (suc m) l i h e =
     let b : suc i ≡ i + 1 = omega arith in
     rw (eq-eqb (size_at words i) l e) (ap₂ (λ (x y : ℕ). suc (same_from words x l y)) a b)
 
-same_stop : (words : List ℕ) (m l i : ℕ) → size_at words i ≢ l → same_from words m l i ≡ 0
+pub same_stop : (words : List ℕ) (m l i : ℕ) → size_at words i ≢ l → same_from words m l i ≡ 0
 unfolding same_from
 same_stop words zero l i ne = refl
 same_stop words (suc m) l i ne = rw (ne_eqb (size_at words i) l ne) refl
@@ -65,7 +65,7 @@ seen_size : (headers : Bytes) (place : ℕ) (x : Entry) → entry_length (entry_
 seen_size headers place State = cut_length header_slot headers place 20
 seen_size headers place (Packet x) = refl
 
-same_entries : (headers : Bytes) (ws : List ℕ) (m l i place : ℕ) → i + m ≤ length ws
+pub same_entries : (headers : Bytes) (ws : List ℕ) (m l i place : ℕ) → i + m ≤ length ws
     → same_length m l (seen_entries headers place (drop i ws)) ≡ same_from ws m l i
 unfolding same_length same_from
 same_entries headers ws zero l i place h = refl
@@ -96,7 +96,7 @@ module _ (q : Queue) (segments : ℕ) (queue : List ℕ) (some : 1 ≤ q.left) (
       (sym (same_entries l.headers (entry_words q queue) (min segments q.left) (size_at (entry_words q queue) 0) 0 q.gone (omega arith)))
 
   module _ (m l : ℕ) (most : m ≡ min segments q.left) (first : l ≡ size_at (entry_words q queue) 0) where
-    batched : (r : ℕ) → r ≤ m → r ≡ same_from (entry_words q queue) m l 0 → Batched q segments queue r
+    pub batched : (r : ℕ) → r ≤ m → r ≡ same_from (entry_words q queue) m l 0 → Batched q segments queue r
     batched r h e =
         record {
           count = λ st t le e₁ e₂ e₃. e ∙ ap₂ (λ (x y : ℕ). same_from (entry_words q queue) x y 0) most first ∙ counted st t le e₁ e₂ e₃;

@@ -67,7 +67,7 @@ module _ (s : Stream) (t : Totals) (l : Lent) (len : length l.queue ≡ 128) whe
   later true e = refl
   later false e = line s.ending.ended refusal.AfterDone _ _ (last_lines s.queue.left s.queue.states queued (places_used (unbroken s t l len e)))
 
-  close_list : close_verdict (broken_records s t l) s ≡ verdict_of (why_of close_refusal s t l)
+  pub close_list : close_verdict (broken_records s t l) s ≡ verdict_of (why_of close_refusal s t l)
   unfolding close_refusal seen seen_queue
   close_list = later (broken_records s t l) refl ∙ refusal_one s t l (verdict_of later_why) later_why len refl
 

@@ -66,7 +66,7 @@ full_line : (k n : ℕ) → k ≡ n
 full_line k n e = rw e (line (leb 62 n) refusal.StateQueueFull (Ok tt) none refl)
 
 -- the payload is all that follows the header
-rest_of : (datagram : Bytes) → take (length datagram - 20) (drop 20 datagram) ≡ drop 20 datagram
+pub rest_of : (datagram : Bytes) → take (length datagram - 20) (drop 20 datagram) ≡ drop 20 datagram
 rest_of datagram = take_all (length datagram - 20) (drop 20 datagram) (rw length-drop (omega arith))
 
 -- the refusal for a datagram's header (8 to 13), if any

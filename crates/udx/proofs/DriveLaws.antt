@@ -52,7 +52,7 @@ module _ (s : Stream) (t : Totals) (l : Lent) (len : length l.queue ≡ 128) (cl
     whole : Whole s t l
     whole = unbroken s t l len (early_clear s t l len clock b v is says clear).0
 
-    at_rest : s.queue.left ≡ 0
+    pub at_rest : s.queue.left ≡ 0
     at_rest = (early_clear s t l len clock b v is says clear).2
 
     acting : on_records (drive clock) s t l ≡ acts clock (seen s t l)
