@@ -69,7 +69,7 @@ call_of n =
     (cond (eqb n 7) (Some call.Look)
     None)))))))
 
--- the call with any number: one that no call has looks
+-- the call with any number: a number that no call has is a look
 abbrev or_look : Option DrillCall → DrillCall
 or_look None = call.Look
 or_look (Some c) = c

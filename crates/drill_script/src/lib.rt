@@ -90,7 +90,7 @@ impl TryFrom<u8> for DrillCall {
 }
 
 impl DrillCall {
-    // The call with any number: one that no call has looks, as 7 does.
+    // The call with any number: a number that no call has is a look, as 7 is.
     #[tactic(auto, unfolding(crate::specs::Commands::numbered))]
     pub fn numbered(number: u8) -> DrillCall
         ensures { result ≡ numbered number }

@@ -78,7 +78,7 @@ impl TryFrom<FlatEnding> for Ending {
     }
 }
 
-// The ending that any bytes represent, an invalid one like the last valid one.
+// The ending that any bytes represent: an invalid error or state like the last valid one, an invalid flag like 0.
 pub fn ending_of(e: FlatEnding) -> Ending
     ensures { result ≡ ending_of e }
 {

@@ -95,7 +95,7 @@ impl From<FlatClocks> for Clocks {
     }
 }
 
-// The stream that any numbers represent, an invalid byte of its ending like the last valid one.
+// The stream that any numbers represent, an invalid byte of its ending read as in ending_of.
 #[tactic(auto, unfolding(crate::specs::Flat::stream_of))]
 pub fn stream_of(f: FlatStream) -> Stream
     ensures { result ≡ stream_of f }
