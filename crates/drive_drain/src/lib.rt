@@ -3,6 +3,7 @@
 
 ghost use Rattle.std.specs.Prelude.{◌≡◌};
 ghost use Rattle.drive_drain.specs.Draining.{AnyStored, Drains, LeavesToTake};
+ghost use Rattle.model.specs.Sending.{is_set};
 
 use constants::SENT_WORDS;
 use error::UdxError;
@@ -21,12 +22,19 @@ pub fn any_stored(s: Sender, sent: &[u64; SENT_WORDS]) -> bool
     false
 }
 
+// Whether an error is set, whichever: a function of its own, so that its contract refuses a test that passes over one.
+fn is_set(error: Option<UdxError>) -> bool
+    ensures { result ≡ is_set error }
+{
+    error.is_some()
+}
+
 // Whether an error is set and queue and outgoing store are empty. Nothing is left to take, so the queue has `count` entries.
 pub fn drained(error: Option<UdxError>, q: Queue, s: Sender, sent: &[u64; SENT_WORDS]) -> bool
     requires { q.left ≡ 0 }
     ensures { Drains error q s sent.now result }
 {
-    error.is_some() && q.count == 0 && !any_stored(s, sent)
+    is_set(error) && q.count == 0 && !any_stored(s, sent)
 }
 
 // Leaves everything queued to take.
