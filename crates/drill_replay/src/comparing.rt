@@ -1,10 +1,8 @@
 // Compares a script's lines with its recorded answer.
-ghost use Rattle.std.specs.Prelude.{◌≡◌, length};
+ghost use Rattle.std.specs.Prelude.{◌≡◌};
 ghost use Rattle.drill_replay.specs.Kinds.{kind_of};
-ghost use Rattle.session_turn.specs.Turned.{Turned};
 
 use drill_turn::DrillLent;
-use session_turn::{Ends, Turn};
 
 // What runs a script.
 #[derive(Clone, Copy)]
@@ -36,24 +34,6 @@ pub struct Difference {
     pub len: Option<usize>,
 }
 
-// Runs one command of a script of either kind.
-fn turn(kind: Kind, ends: Ends, script: &[u8], at: usize, lent: &mut DrillLent) -> Turn
-    ensures { Turned (length script.now) at result }
-{
-    match kind {
-        Kind::Session => session_turn::run_one(
-            ends,
-            script,
-            at,
-            &mut lent.zero,
-            &mut lent.one,
-            &mut lent.scratch,
-            &mut lent.line,
-        ),
-        Kind::Drill => drill_turn::run_one(ends, script, at, lent),
-    }
-}
-
 // Whether the answer continues at `at` with this line.
 fn goes_on(answer: &[u8], at: usize, line: &[u8]) -> bool {
     answer.get(at..).is_some_and(|rest| rest.starts_with(line))
@@ -79,7 +59,19 @@ pub fn compare(
     let mut lines: u64 = 0;
     // No `for`: only a command's turn says where the next command starts.
     while from < script.len() {
-        let t = turn(kind, ends, script, from, lent);
+        // Here and not in a function of its own, which would copy both ends once more for each command, on the stack too.
+        let t = match kind {
+            Kind::Session => session_turn::run_one(
+                ends,
+                script,
+                from,
+                &mut lent.zero,
+                &mut lent.one,
+                &mut lent.scratch,
+                &mut lent.line,
+            ),
+            Kind::Drill => drill_turn::run_one(ends, script, from, lent),
+        };
         if !goes_on(answer, at, &lent.line[..t.len]) {
             return Some(Difference {
                 lines,

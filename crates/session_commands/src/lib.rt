@@ -82,15 +82,12 @@ fn write(
 }
 
 // Keeps the datagrams of the batch at the front of buf.
-fn keep(c: Called, kept: &mut [u8; KEPT_STORE], buf: &[u8]) -> Called
+fn keep(mut c: Called, kept: &mut [u8; KEPT_STORE], buf: &[u8]) -> Called
     ensures { KeepsBatch c kept.old buf.now result kept.new }
 {
     let n = c.count.min(buf.len());
-    let kept = session_kept::keep(c.end.kept, &buf[..n], c.segment, kept);
-    Called {
-        end: SessionEnd { kept, ..c.end },
-        ..c
-    }
+    c.end.kept = session_kept::keep(c.end.kept, &buf[..n], c.segment, kept);
+    c
 }
 
 // Takes into a buffer of `room` bytes, the front of scratch, and keeps the datagrams of the batch. The stores are lent one by one, so that
