@@ -207,28 +207,30 @@ fn spoil(
     drill_lines::put_line(line, DrillName::Spoil, x.end, outcome)
 }
 
-// Runs a drill command; s starts with its bytes. The one match that runs a command.
+// Runs a drill command on the end; s starts with its bytes. Answers the line's length. The one match that runs a command. The end changes in
+// place: an answer with an end would stay on the stack while the session runs a command.
 pub fn act(
-    e: SessionEnd,
+    e: &mut SessionEnd,
     drill: Drill,
     s: &[u8],
     mine: &mut EndStores,
     scratch: &mut [u8; SCRATCH],
     spare: &mut Spare,
     line: &mut [u8; LINE],
-) -> Acted
-    ensures { result.len ≤ 8_400 }
+) -> usize
+    ensures { result ≤ 8_400 }
 {
-    let len = match drill {
-        Drill::Raw(r) => return raw(e, r, s, mine, line),
-        Drill::Base(b) => return base(e, b, line),
-        Drill::Open(o) => return open(e, o, mine, line),
-        Drill::Room(r) => return room(e, r, mine, scratch, line),
-        Drill::Look { end } => look(e, end, mine, line),
-        Drill::Numbers { end } => put_numbers(e, end, line),
-        Drill::Encode(x) => encode(x, line),
-        Drill::Decode { length: size } => decode(part(s, 2, size as u16), line),
-        Drill::Spoil(x) => spoil(e, x, mine, spare, line),
+    let a = match drill {
+        Drill::Raw(r) => raw(*e, r, s, mine, line),
+        Drill::Base(b) => base(*e, b, line),
+        Drill::Open(o) => open(*e, o, mine, line),
+        Drill::Room(r) => room(*e, r, mine, scratch, line),
+        Drill::Look { end } => return look(*e, end, mine, line),
+        Drill::Numbers { end } => return put_numbers(*e, end, line),
+        Drill::Encode(x) => return encode(x, line),
+        Drill::Decode { length: size } => return decode(part(s, 2, size as u16), line),
+        Drill::Spoil(x) => return spoil(*e, x, mine, spare, line),
     };
-    Acted { end: e, len }
+    *e = a.end;
+    a.len
 }

@@ -22,22 +22,14 @@ pub fn run_one(mut ends: Ends, script: &[u8], at: usize, lent: &mut DrillLent) -
     let Some(Parsed { drill, size }) = drill_script::parse(s) else {
         return session_turn::run_one(ends, script, at, zero, one, scratch, line);
     };
-    let next = at + size;
-    // One block for each end, as in session_turn.
-    if drill.end() == 0 {
-        let a = act(ends.zero, drill, s, zero, scratch, spare, line);
-        ends.zero = a.end;
-        return Turn {
-            ends,
-            next,
-            len: a.len,
-        };
-    }
-    let a = act(ends.one, drill, s, one, scratch, spare, line);
-    ends.one = a.end;
+    let len = if drill.end() == 0 {
+        act(&mut ends.zero, drill, s, zero, scratch, spare, line)
+    } else {
+        act(&mut ends.one, drill, s, one, scratch, spare, line)
+    };
     Turn {
         ends,
-        next,
-        len: a.len,
+        next: at + size,
+        len,
     }
 }
