@@ -59,7 +59,7 @@ pub fn compare(
     let mut lines: u64 = 0;
     // No `for`: only a command's turn says where the next command starts.
     while from < script.len() {
-        // Here and not in a function of its own, which would copy both ends once more for each command, on the stack too.
+        // Here and not in a function of its own, which would copy both ends more often, and that takes stack too.
         let t = match kind {
             Kind::Session => session_turn::run_one(
                 ends,

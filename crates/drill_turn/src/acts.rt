@@ -208,7 +208,7 @@ fn spoil(
 }
 
 // Runs a drill command on the end; s starts with its bytes. Answers the line's length. The one match that runs a command. The end changes in
-// place: an answer with an end would stay on the stack while the session runs a command.
+// place: an answer with an end would take room in `run_one`'s frame, below a session's command too.
 pub fn act(
     e: &mut SessionEnd,
     drill: Drill,
